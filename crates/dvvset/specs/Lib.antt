@@ -1,0 +1,4 @@
+pub mod Limits
+pub mod Clock
+pub mod Listing
+pub mod Laws
