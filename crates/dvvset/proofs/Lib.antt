@@ -1,3 +1,4 @@
 pub mod Lists
 pub mod Merging
 pub mod Holding
+pub mod Zips
