@@ -1,0 +1,8 @@
+use Rattle.values.proofs.Layouts.{setting-forth, setting-fits}
+use Rattle.values.proofs.setting.SettingValue.the-impl.Needs as need
+
+pub forth-law : need.forth-law
+forth-law = setting-forth
+
+pub fits-law : need.fits-law
+fits-law = setting-fits

@@ -1,0 +1,20 @@
+// Values that stand in frames as a fixed number of bytes: settings, detents and places.
+mod detent;
+mod measured;
+mod place;
+mod setting;
+mod value;
+
+pub use detent::Detent;
+pub use detent::DetentMeasured;
+pub use detent::DetentValue;
+pub use measured::Measured;
+pub use measured::lower;
+pub use place::Place;
+pub use place::PlaceValue;
+pub use setting::Setting;
+pub use setting::SettingMeasured;
+pub use setting::SettingValue;
+pub use value::Value;
+pub use value::read_value;
+pub use value::write_value;
