@@ -1,21 +1,41 @@
--- What bytes of the right number read as is a value, and it writes those bytes. Assumes nothing.
+-- A value's bytes read as the value; bytes of the right number read as a value, which writes them again. Assumes nothing.
 use Prim.Native.Nat.{ℕ, _<_, _^_}
+use lib.IntN.{ℤ}
 use lib.ListN.{length, take, drop}
 use mathlib.Core.List.{List, _++_}
 use mathlib.Core.Path.{_≡_, refl, ap, _∙_}
-use mir.Syntax.{w32}
+use mir.Syntax.{w16, w32}
 use native.Mathlib.Omega.{arith}
 use Rattle.std.proofs.shelf.Elements.{all-take, all-drop}
 use Rattle.std.proofs.shelf.Lists.{length-drop, length-take-le, take-append-drop}
 use Rattle.values.specs.BigEndian.{Bytes, from-bytes, to-bytes}
-use Rattle.values.specs.Layouts.{setting-bytes, setting-of, SettingFits, place-bytes, place-of, PlaceFits}
-use Rattle.values.proofs.BigEndian.{from-bytes-fits, to-from-bytes, signed-from-bytes-fits, signed-to-from-bytes}
+use Rattle.values.specs.Layouts.{setting-bytes, setting-of, SettingFits, detent-bytes, detent-of, DetentFits, place-bytes, place-of, PlaceFits}
+use Rattle.values.specs.declared.detent.Detent.{Detent}
+use Rattle.values.specs.declared.place.Place.{Place}
+use Rattle.values.specs.declared.setting.Setting.{Setting}
+use Rattle.values.proofs.BigEndian.{from-bytes-fits, from-to-bytes, to-from-bytes, signed-from-bytes-fits, signed-from-to-bytes, signed-to-from-bytes}
 
 pub bytes-take : (n : ℕ) (bs : List ℕ) → Bytes bs → Bytes (take n bs)
 bytes-take = all-take (λ b. b < 256)
 
 pub bytes-drop : (n : ℕ) (bs : List ℕ) → Bytes bs → Bytes (drop n bs)
 bytes-drop = all-drop (λ b. b < 256)
+
+pub setting-back : (s : Setting) → SettingFits s → setting-of (setting-bytes s) ≡ s
+setting-back s fits =
+    let with-measure : ℤ → Setting = λ z. record { measure = z; label = s .label } in
+    ap with-measure (signed-from-to-bytes w32 (s .measure) (fits .0))
+
+pub detent-back : (d : Detent) → DetentFits d → detent-of (detent-bytes d) ≡ d
+detent-back d fits =
+    let with-step : ℤ → Detent = λ z. record { step = z } in
+    ap with-step (signed-from-to-bytes w16 (d .step) fits)
+
+pub place-back : (p : Place) → PlaceFits p → place-of (place-bytes p) ≡ p
+place-back p fits =
+    let at : ℕ → Place = λ n. record { offset = n; length = from-bytes (to-bytes 4 (p .length)) } in
+    let long : ℕ → Place = λ n. record { offset = p .offset; length = n } in
+    ap at (from-to-bytes 4 (p .offset) (fits .0)) ∙ ap long (from-to-bytes 4 (p .length) (fits .1))
 
 module _ (bs : List ℕ) where
   pub setting-forth : length bs ≡ 16 → Bytes bs → setting-bytes (setting-of bs) ≡ bs

@@ -9,10 +9,10 @@ use Rattle.refusals.specs.declared.Refusal.the-variants.{ShortMemory}
 use Rattle.std.specs.declared.result.Result.{Result}
 use Rattle.std.specs.declared.result.Result.the-variants.{Ok, Err}
 
--- the answer, where the memory has `size` bytes, or a refusal
+-- the answer, where the memory has `width` bytes, or a refusal
 abbrev pub in-memory : {X : Type 0} → ℕ → List ℕ → X → Result X Refusal
-in-memory size memory answer = cond (leb size (length memory)) (Ok answer) (Err ShortMemory)
+in-memory width memory answer = cond (leb width (length memory)) (Ok answer) (Err ShortMemory)
 
--- the memory with its first `size` bytes replaced, or untouched
+-- the memory with its first `width` bytes replaced, or untouched
 abbrev pub overwritten : ℕ → List ℕ → List ℕ → List ℕ
-overwritten size bs memory = cond (leb size (length memory)) (bs ++ drop size memory) memory
+overwritten width bs memory = cond (leb width (length memory)) (bs ++ drop width memory) memory

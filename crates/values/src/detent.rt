@@ -10,7 +10,7 @@ pub struct Detent {
 }
 
 pub impl Value for Detent as DetentValue {
-    ghost size = { 2 };
+    ghost width = { 2 };
 
     ghost bytesOf = { detent-bytes };
 
@@ -36,7 +36,7 @@ pub impl Value for Detent as DetentValue {
 
 // A detent's measure is its step.
 pub impl Measured for Detent as DetentMeasured {
-    ghost amount = { λ d. d .step };
+    ghost measure = { λ d. d .step };
 
     fn measure(&self) -> i32 {
         self.step as i32

@@ -6,15 +6,15 @@ use crate::value::Value;
 
 // A value with a signed measure.
 pub trait Measured: Value {
-    ghost amount: { Self → ℤ };
+    ghost measure: { Self → ℤ };
 
     fn measure(&self) -> i32
-        ensures { λ r. ⌜ r ≡ amount (now (self .entry)) ⌝ };
+        ensures { λ r. ⌜ r ≡ measure (now (self .entry)) ⌝ };
 }
 
 // Whether the first has the lower measure.
 pub fn lower<V: Measured>(a: &V, b: &V) -> bool
-    ensures { λ r. ⌜ r ≡ ltZ (V·Measured .amount (now (a .entry))) (V·Measured .amount (now (b .entry))) ⌝ }
+    ensures { λ r. ⌜ r ≡ ltZ (V·Measured .measure (now (a .entry))) (V·Measured .measure (now (b .entry))) ⌝ }
 {
     a.measure() < b.measure()
 }

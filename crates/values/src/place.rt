@@ -11,7 +11,7 @@ pub struct Place {
 }
 
 pub impl Value for Place as PlaceValue {
-    ghost size = { 8 };
+    ghost width = { 8 };
 
     ghost bytesOf = { place-bytes };
 

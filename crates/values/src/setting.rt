@@ -1,9 +1,11 @@
 // A setting: a measure with a label.
+ghost use Rattle.std.specs.Orderings.{Decides};
 ghost use Rattle.values.specs.Layouts.{SettingFits, setting-bytes, setting-of};
+ghost use mathlib.Core.Path.{_≡_};
 use crate::measured::Measured;
 use crate::value::Value;
 
-#[derive(Clone, Copy, PartialEq, Eq, Debug)]
+#[derive(Clone, Copy, Debug)]
 pub struct Setting {
     // measure (4): signed, the highest byte first
     pub measure: i32,
@@ -11,8 +13,19 @@ pub struct Setting {
     pub label: [u8; 12],
 }
 
+// The measures and the labels are the same.
+pub impl PartialEq<Setting> for Setting as SettingPartialEq {
+    ghost equals = { λ a b r. Decides r (a ≡ b) };
+
+    fn eq(&self, other: &Setting) -> bool {
+        self.measure == other.measure && self.label == other.label
+    }
+}
+
+pub impl Eq for Setting as SettingEq {}
+
 pub impl Value for Setting as SettingValue {
-    ghost size = { 16 };
+    ghost width = { 16 };
 
     ghost bytesOf = { setting-bytes };
 
@@ -42,7 +55,7 @@ pub impl Value for Setting as SettingValue {
 }
 
 pub impl Measured for Setting as SettingMeasured {
-    ghost amount = { λ s. s .measure };
+    ghost measure = { λ s. s .measure };
 
     fn measure(&self) -> i32 {
         self.measure
