@@ -4,5 +4,4 @@ ghost use Rattle.examples.specs.Table.{Table};
 // They hold for values of any type.
 pub fn worked_examples<V>()
     ensures { λ _. ⌜ ((a b c p q r : V) → Table a b c p q r) ⌝ }
-{
-}
+{}
