@@ -17,7 +17,7 @@ use Rattle.values.specs.BigEndian.{Bytes, from-bytes, to-bytes}
 use Rattle.values.proofs.BigEndian.{bytes-take, bytes-drop, from-to-bytes, to-from-bytes}
 use Rattle.dvvset.specs.Clock.{ColumnState, Legal, no-writes}
 use Rattle.formats.specs.Frames.{field, unwritten, column-field}
-use Rattle.formats.specs.Reading.{Field, Told, values-of, tagged, column-told}
+use Rattle.formats.specs.Reading.{Field, Told, values-of, tagged, raw-column, column-of, column-told}
 use Rattle.formats.proofs.Steps.{then-ok, unless-ok, then-goes, unless-goes, ok-same, tagged-field, field-tagged}
 use Rattle.formats.proofs.Codes.{Code, length-joined, values-joined, length-values, joined-values}
 use Rattle.formats.proofs.Rising.{Kind}
@@ -60,12 +60,13 @@ module _ {V : Type 0} {width : ℕ} {bytesOf : V → List ℕ} {valueOf : List �
       let some : 1 ≤ a .top = omega (arith, eqb-false (a .top) 0 there) in
       let vs = values-joined code (a .values) (g .fit) in (
         at + (3 + length bd),
-        then-goes _ _ _ _ (tagged-field 2 at bd rest (omega (arith, l .0, l .1, code .most)))
+        then-goes (raw-column width at (column-field bytesOf c a ++ rest)) _ (record { column = c; count = n; top = top bd; values = joined bytesOf (a .values); next = at + (3 + length bd); rest = rest }) _
+            (then-goes _ _ _ _ (tagged-field 2 at bd rest (omega (arith, l .0, l .1, code .most)))
             (unless-goes (WrongLength at) (leb 6 (length bd)) _ _ (le-leb 6 (length bd) (omega arith))
             (unless-goes (OutOfRange at) (in-range bd) _ _
             (and-from _ _ (le-leb c 23 low) (and-from _ _ (le-leb n 4 (g .legal .few)) (and-from _ _ (le-leb n (top bd) (omega (arith, g .legal .within))) (and-from _ _ (le-leb 1 (top bd) (omega arith)) (le-leb (top bd) 999999 (omega (arith, g .legal .low)))))))
-            (unless-goes (WrongLength at) (eqb (length bd) (6 + width * n)) _ _ (eq-eqb (length bd) (6 + width * n) (l .0))
-            (ap (λ m. Ok (record { column = c; what = record { top = m; values = values-of width valueOf n (joined bytesOf (a .values)) }; next = at + (3 + length bd); rest = rest })) t ∙ ap (λ us. Ok (record { column = c; what = record { top = a .top; values = us }; next = at + (3 + length bd); rest = rest })) vs)))),
+            (unless-goes (WrongLength at) (eqb (length bd) (6 + width * n)) _ _ (eq-eqb (length bd) (6 + width * n) (l .0)) refl))))
+            (ap (λ m. Ok (record { column = c; what = record { top = m; values = values-of width valueOf n (joined bytesOf (a .values)) }; next = at + (3 + length bd); rest = rest })) t ∙ ap (λ us. Ok (record { column = c; what = record { top = a .top; values = us }; next = at + (3 + length bd); rest = rest })) vs),
       )
 
   -- the column that a body tells
@@ -84,11 +85,13 @@ module _ {V : Type 0} {width : ℕ} {bytesOf : V → List ℕ} {valueOf : List �
 
   column-was-written : (at : ℕ) (bs : List ℕ) (f : Told (ColumnState V)) → Bytes bs → column-told width valueOf at bs ≡ Ok f → (bs ≡ column-field bytesOf (f .column) (f .what) ++ f .rest) × Good valid (f .what) × (unwritten (f .what) ≡ false) × Bytes (f .rest)
   column-was-written at bs f b e =
-      let u = then-ok (tagged 2 at bs) _ f e in
+      let o = then-ok (raw-column width at bs) _ f e in
+      let u = then-ok (tagged 2 at bs) _ (o .0) (o .1) in
       let bd = u .0 .body in
-      let v = unless-ok (WrongLength at) (leb 6 (length bd)) _ f (u .2) in
-      let w = unless-ok (OutOfRange at) (in-range bd) _ f (v .1) in
-      let x = unless-ok (WrongLength at) (eqb (length bd) (6 + width * count bd)) _ f (w .1) in
+      let v = unless-ok (WrongLength at) (leb 6 (length bd)) _ (o .0) (u .2) in
+      let w = unless-ok (OutOfRange at) (in-range bd) _ (o .0) (v .1) in
+      let x = unless-ok (WrongLength at) (eqb (length bd) (6 + width * count bd)) _ (o .0) (w .1) in
+      let is-f = ap (column-of width valueOf) (ok-same (x .1)) ∙ ok-same (o .2) in
       let g = field-tagged 2 at bs (u .0) b (u .1) in
       let six : 6 ≤ length bd = leb-true 6 (length bd) (v .0) in
       let is = body-is bd six (g .1 .body-bytes) (eqb-true (length bd) (6 + width * count bd) (x .0)) in
@@ -97,7 +100,7 @@ module _ {V : Type 0} {width : ℕ} {bytesOf : V → List ℕ} {valueOf : List �
       let r = and-parts (leb (count bd) (top bd)) _ (q .1) in
       let s = and-parts (leb 1 (top bd)) _ (r .1) in
       let n = length-values code (count bd) (drop 6 bd) in
-      rw (← ok-same (x .1)) (
+      rw (← is-f) (
         g .1 .is ∙ ap (λ t. field t bd ++ u .0 .rest) (g .0) ∙ ap (λ d. field 2 d ++ u .0 .rest) (sym (is .0)),
         record {
           legal = record { few = omega (arith, n, leb-true (count bd) 4 (q .0)); within = omega (arith, n, leb-true (count bd) (top bd) (r .0)); low = leb-true (top bd) 999999 (s .1) };

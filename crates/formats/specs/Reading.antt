@@ -62,9 +62,18 @@ abbrev pub values-of : {V : Type 0} → ℕ → (List ℕ → V) → ℕ → Lis
 values-of w valueOf zero bs = []
 values-of w valueOf (suc n) bs = valueOf (take w bs) ∷ values-of w valueOf n (drop w bs)
 
--- column (1), count (1), top (4), values
-abbrev pub column-told : {V : Type 0} → ℕ → (List ℕ → V) → ℕ → List ℕ → Result (Told (ColumnState V)) Refusal
-column-told w valueOf at bs =
+-- a column field as its bytes stand
+pub record Raw : Type 0 where
+  pub column : ℕ
+  pub count : ℕ
+  pub top : ℕ
+  pub values : List ℕ
+  pub next : ℕ
+  pub rest : List ℕ
+
+-- column (1), count (1), top (4), values of w bytes each
+abbrev pub raw-column : ℕ → ℕ → List ℕ → Result Raw Refusal
+raw-column w at bs =
     then (tagged 2 at bs) (λ f.
     let c = getD (f .body) 0 0 in
     let count = getD (f .body) 1 0 in
@@ -72,7 +81,14 @@ column-told w valueOf at bs =
     unless (WrongLength at) (leb 6 (length (f .body)))
     (unless (OutOfRange at) (leb c 23 && (leb count most-siblings && (leb count top && (leb 1 top && leb top last-counter))))
     (unless (WrongLength at) (eqb (length (f .body)) (6 + w * count))
-    (Ok (record { column = c; what = record { top = top; values = values-of w valueOf count (drop 6 (f .body)) }; next = at + (3 + length (f .body)); rest = f .rest })))))
+    (Ok (record { column = c; count = count; top = top; values = drop 6 (f .body); next = at + (3 + length (f .body)); rest = f .rest })))))
+
+-- the column that it tells
+abbrev pub column-of : {V : Type 0} → ℕ → (List ℕ → V) → Raw → Told (ColumnState V)
+column-of w valueOf r = record { column = r .column; what = record { top = r .top; values = values-of w valueOf (r .count) (r .values) }; next = r .next; rest = r .rest }
+
+abbrev pub column-told : {V : Type 0} → ℕ → (List ℕ → V) → ℕ → List ℕ → Result (Told (ColumnState V)) Refusal
+column-told w valueOf at bs = then (raw-column w at bs) (λ r. Ok (column-of w valueOf r))
 
 -- column (1), top (4)
 abbrev pub top-told : ℕ → List ℕ → Result (Told ℕ) Refusal
