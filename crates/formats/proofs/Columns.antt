@@ -1,7 +1,7 @@
 -- The column field, written and read. Assumes nothing.
 use mathlib.Core.Path.{_≡_, refl, sym, ap, _∙_}
 use mathlib.Core.List.{List, [], _∷_, _++_}
-use mathlib.Core.Bool.{Bool, true, false, _&&_}
+use mathlib.Core.Bool.{false}
 use Prim.Native.Nat.{ℕ, suc, _+_, _*_, _^_, _≤_, _<_}
 use native.Mathlib.Omega.{arith}
 use native.Mathlib.Nat.{mul-le-mul-left, mul-comm}
@@ -17,7 +17,7 @@ use Rattle.values.specs.BigEndian.{Bytes, from-bytes, to-bytes}
 use Rattle.values.proofs.BigEndian.{bytes-take, bytes-drop, from-to-bytes, to-from-bytes}
 use Rattle.dvvset.specs.Clock.{ColumnState, Legal, no-writes}
 use Rattle.formats.specs.Frames.{field, unwritten, column-field}
-use Rattle.formats.specs.Reading.{Field, Told, values-of, tagged, raw-column, column-of, column-told}
+use Rattle.formats.specs.Reading.{Field, Told, values-of, tagged, raw-column, column-of, in-range, column-told}
 use Rattle.formats.proofs.Steps.{then-ok, unless-ok, then-goes, unless-goes, ok-same, tagged-field, field-tagged}
 use Rattle.formats.proofs.Codes.{Code, length-joined, values-joined, length-values, joined-values}
 use Rattle.formats.proofs.Rising.{Kind}
@@ -48,9 +48,6 @@ module _ {V : Type 0} {width : ℕ} {bytesOf : V → List ℕ} {valueOf : List �
   abbrev top : List ℕ → ℕ
   top bd = from-bytes (take 4 (drop 2 bd))
 
-  abbrev in-range : List ℕ → Bool
-  in-range bd = leb (col bd) 23 && (leb (count bd) 4 && (leb (count bd) (top bd) && (leb 1 (top bd) && leb (top bd) 999999)))
-
   column-written : (at c : ℕ) (a : ColumnState V) (rest : List ℕ) → c ≤ 23 → Good valid a → unwritten a ≡ false → (next : ℕ) × (column-told width valueOf at (column-field bytesOf c a ++ rest) ≡ Ok (record { column = c; what = a; next = next; rest = rest }))
   column-written at c a rest low g there =
       let bd = body c a in
@@ -63,7 +60,7 @@ module _ {V : Type 0} {width : ℕ} {bytesOf : V → List ℕ} {valueOf : List �
         then-goes (raw-column width at (column-field bytesOf c a ++ rest)) _ (record { column = c; count = n; top = top bd; values = joined bytesOf (a .values); next = at + (3 + length bd); rest = rest }) _
             (then-goes _ _ _ _ (tagged-field 2 at bd rest (omega (arith, l .0, l .1, code .most)))
             (unless-goes (WrongLength at) (leb 6 (length bd)) _ _ (le-leb 6 (length bd) (omega arith))
-            (unless-goes (OutOfRange at) (in-range bd) _ _
+            (unless-goes (OutOfRange at) (in-range (col bd) (count bd) (top bd)) _ _
             (and-from _ _ (le-leb c 23 low) (and-from _ _ (le-leb n 4 (g .legal .few)) (and-from _ _ (le-leb n (top bd) (omega (arith, g .legal .within))) (and-from _ _ (le-leb 1 (top bd) (omega arith)) (le-leb (top bd) 999999 (omega (arith, g .legal .low)))))))
             (unless-goes (WrongLength at) (eqb (length bd) (6 + width * n)) _ _ (eq-eqb (length bd) (6 + width * n) (l .0)) refl))))
             (ap (λ m. Ok (record { column = c; what = record { top = m; values = values-of width valueOf n (joined bytesOf (a .values)) }; next = at + (3 + length bd); rest = rest })) t ∙ ap (λ us. Ok (record { column = c; what = record { top = a .top; values = us }; next = at + (3 + length bd); rest = rest })) vs),
@@ -89,7 +86,7 @@ module _ {V : Type 0} {width : ℕ} {bytesOf : V → List ℕ} {valueOf : List �
       let u = then-ok (tagged 2 at bs) _ (o .0) (o .1) in
       let bd = u .0 .body in
       let v = unless-ok (WrongLength at) (leb 6 (length bd)) _ (o .0) (u .2) in
-      let w = unless-ok (OutOfRange at) (in-range bd) _ (o .0) (v .1) in
+      let w = unless-ok (OutOfRange at) (in-range (col bd) (count bd) (top bd)) _ (o .0) (v .1) in
       let x = unless-ok (WrongLength at) (eqb (length bd) (6 + width * count bd)) _ (o .0) (w .1) in
       let is-f = ap (column-of width valueOf) (ok-same (x .1)) ∙ ok-same (o .2) in
       let g = field-tagged 2 at bs (u .0) b (u .1) in

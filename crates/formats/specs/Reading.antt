@@ -71,6 +71,10 @@ pub record Raw : Type 0 where
   pub next : ℕ
   pub rest : List ℕ
 
+-- a column up to 23, at most four values and never more than the top, and a top of 1 to 999,999
+abbrev pub in-range : ℕ → ℕ → ℕ → Bool
+in-range c count top = leb c 23 && (leb count most-siblings && (leb count top && (leb 1 top && leb top last-counter)))
+
 -- column (1), count (1), top (4), values of w bytes each
 abbrev pub raw-column : ℕ → ℕ → List ℕ → Result Raw Refusal
 raw-column w at bs =
@@ -79,7 +83,7 @@ raw-column w at bs =
     let count = getD (f .body) 1 0 in
     let top = from-bytes (take 4 (drop 2 (f .body))) in
     unless (WrongLength at) (leb 6 (length (f .body)))
-    (unless (OutOfRange at) (leb c 23 && (leb count most-siblings && (leb count top && (leb 1 top && leb top last-counter))))
+    (unless (OutOfRange at) (in-range c count top)
     (unless (WrongLength at) (eqb (length (f .body)) (6 + w * count))
     (Ok (record { column = c; count = count; top = top; values = drop 6 (f .body); next = at + (3 + length (f .body)); rest = f .rest })))))
 
