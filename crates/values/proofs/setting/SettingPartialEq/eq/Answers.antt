@@ -1,0 +1,18 @@
+use borrow.Author.Needs.{needs}
+use lib.IntN.{ℤ}
+use mathlib.Core.Path.{_≡_, ap, _∙_}
+use mathlib.Core.List.{List}
+use Prim.Native.Nat.{ℕ}
+use Rattle.std.proofs.shelf.Equals.{matches-decides}
+use Rattle.values.specs.declared.setting.Setting.{Setting}
+use Rattle.values.proofs.setting.SettingPartialEq.eq.Needs as need
+
+pub returns-then-self-other : need.returns-then-self-other
+returns-then-self-other c =
+    let a = c .args .self .now in
+    let b = c .args .other .now in
+    let with-measure : ℤ → Setting = λ z. record { measure = z; label = a .label } in
+    let with-label : List ℕ → Setting = λ xs. record { measure = b .measure; label = xs } in
+    let measure : a .measure ≡ b .measure = search needs in
+    let labels = matches-decides (a .label) (b .label) (c .eq .result) (c .eq .ensures) in
+    (λ same. ap with-measure measure ∙ ap with-label (labels .0 same), λ same. labels .1 (ap (λ (s : Setting). s .label) same))
