@@ -20,7 +20,8 @@ class Scenario:
     def __init__(self, seed):
         self.chance = random.Random(seed)
         self.seats = self.chance.sample(range(6), self.chance.randint(1, 6))
-        self.keys = self.chance.sample(range(16), self.chance.randint(1, 3))
+        self.keys = self.chance.sample(range(16), self.chance.randint(1, 2))
+        self.seen = self.chance.choice([30, 60, 90])
         self.calls = 0
         self.gets = []
         self.lines = []
@@ -47,15 +48,15 @@ class Scenario:
         if not self.odds(percent):
             return []
         fitting = [call for call, of in self.gets if of == key]
-        if fitting and not self.odds(10):
-            call = fitting[-1] if self.odds(60) else self.pick(fitting)
-        else:
-            call = self.chance.randint(0, self.calls + 2)
-        return ["with", call]
+        if self.odds(5):
+            return ["with", self.chance.randint(0, self.calls + 2)]
+        if not fitting:
+            return []
+        return ["with", fitting[-1] if self.odds(60) else self.pick(fitting)]
 
     def put(self):
         key = self.key()
-        return ["put", self.seat(), key, self.measure(), self.label()] + self.with_words(key, 60)
+        return ["put", self.seat(), key, self.measure(), self.label()] + self.with_words(key, self.seen)
 
     def delete(self):
         key = self.key()
@@ -90,7 +91,7 @@ class Scenario:
     def write(self, words):
         """The words as a line, now and then with blanks in odd places."""
         texts = [str(word) for word in words]
-        if self.odds(5) and texts[1].isdigit():
+        if self.odds(5) and len(texts) > 1 and texts[1].isdigit():
             texts[1] = self.pick(["+", "0", "+00"]) + texts[1]
         line = texts[0]
         for text in texts[1:]:
@@ -125,8 +126,12 @@ class Scenario:
         return "\n".join(self.lines) + ending
 
 
+def scenario(seed):
+    return Scenario(seed).text()
+
+
 def main():
-    sys.stdout.buffer.write(Scenario(int(sys.argv[1])).text().encode("utf-8"))
+    sys.stdout.buffer.write(scenario(int(sys.argv[1])).encode("utf-8"))
 
 
 if __name__ == "__main__":

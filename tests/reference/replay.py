@@ -237,9 +237,9 @@ def reading(known):
     return "\n    ".join(lines)
 
 
-def main():
+def play(text):
+    """What is printed for the text of a scenario."""
     replay = Replay()
-    text = sys.stdin.buffer.read().decode("utf-8")
     lines = text.split("\n")
     if lines[-1] == "":
         lines.pop()
@@ -256,7 +256,12 @@ def main():
             answer = f"line {at}: {bad}"
         if answer is not None:
             out.append(answer)
-    sys.stdout.buffer.write("".join(line + "\n" for line in out).encode("utf-8"))
+    return "".join(line + "\n" for line in out)
+
+
+def main():
+    text = sys.stdin.buffer.read().decode("utf-8")
+    sys.stdout.buffer.write(play(text).encode("utf-8"))
 
 
 if __name__ == "__main__":

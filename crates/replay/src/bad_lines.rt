@@ -23,15 +23,17 @@ pub enum BadLine<'a> {
 
 pub impl fmt::Display for Part as PartDisplay {
     fn fmt<W: fmt::Write>(&self, f: &mut fmt::Formatter<W>) -> fmt::Result {
-        f.write_str(match self {
-            Part::Seat => "seat",
-            Part::SendingSeat => "sending seat",
-            Part::ReceivingSeat => "receiving seat",
-            Part::Key => "key",
-            Part::Measure => "measure",
-            Part::Label => "label",
-            Part::CallNumber => "call number",
-        })
+        f.write_str(
+            match self {
+                Part::Seat => "seat",
+                Part::SendingSeat => "sending seat",
+                Part::ReceivingSeat => "receiving seat",
+                Part::Key => "key",
+                Part::Measure => "measure",
+                Part::Label => "label",
+                Part::CallNumber => "call number",
+            },
+        )
     }
 }
 

@@ -61,12 +61,7 @@ impl Cockpit {
         Ok(Cockpit { states })
     }
 
-    pub fn put(
-        &mut self,
-        at: Spot,
-        value: Setting,
-        context: &Context,
-    ) -> Result<Dot, Refusal>
+    pub fn put(&mut self, at: Spot, value: Setting, context: &Context) -> Result<Dot, Refusal>
         ensures { λ r. ⌜ Changes at (there at) (put-on at (now (context .entry) .tops) value) (vec-items (now (self .entry) .states)) (vec-items (now (self .exit) .states)) r ⌝ }
     {
         let place = place(at)?;

@@ -24,7 +24,10 @@ fn print_outcome(rt: &impl Print, line: u64, call: &Call, outcome: &Outcome) -> 
     match outcome {
         Outcome::Answered(number, answer) => println!(rt, "{number} {call}: {answer}"),
         Outcome::NoSuchGet { call, key } => {
-            println!(rt, "line {line}: call {call} is no earlier get of key {key}")
+            println!(
+                rt,
+                "line {line}: call {call} is no earlier get of key {key}"
+            )
         }
     }
 }

@@ -67,11 +67,12 @@ impl Session {
     fn get(&mut self, at: Spot) -> Result<Answer, AllocError> {
         match self.cockpit.get(at) {
             Ok(reading) => {
-                self.history.add(Given {
-                    call: self.calls,
-                    key: at.key,
-                    context: reading.context,
-                })?;
+                self.history
+                    .add(Given {
+                        call: self.calls,
+                        key: at.key,
+                        context: reading.context,
+                    })?;
                 Ok(Answer::Seen(reading))
             }
             Err(refusal) => Ok(Answer::Refused(refusal)),

@@ -18,12 +18,12 @@ returns-then-get-key c =
 pub loop-get-again : need.loop-get-again
 loop-get-again c =
     elim (c .else-get-call .came) [
-      else-get-call·by·then-get-call·else-get-key w ↦
-        let e = get-of-another-key (c .deref-get-items .result .now) (c .loop-get .get-index) (c .get-item .result) (c .args .call) (c .args .key) (c .loop-get-test .taken) (c .get-item .is) (eq-eqb _ _ (w .if-get-call .taken)) (ne-eqb _ _ (w .if-get-key .left)) in
-        cc
-    | else-get-call·by·else-get-call w ↦
-        let e = get-of-another-call (c .deref-get-items .result .now) (c .loop-get .get-index) (c .get-item .result) (c .args .call) (c .args .key) (c .loop-get-test .taken) (c .get-item .is) (ne-eqb _ _ (w .if-get-call .left)) in
-        cc
+      | else-get-call·by·then-get-call·else-get-key w ↦
+          let e = get-of-another-key (c .deref-get-items .result .now) (c .loop-get .get-index) (c .get-item .result) (c .args .call) (c .args .key) (c .loop-get-test .taken) (c .get-item .is) (eq-eqb _ _ (w .if-get-call .taken)) (ne-eqb _ _ (w .if-get-key .left)) in
+          cc
+      | else-get-call·by·else-get-call w ↦
+          let e = get-of-another-call (c .deref-get-items .result .now) (c .loop-get .get-index) (c .get-item .result) (c .args .call) (c .args .key) (c .loop-get-test .taken) (c .get-item .is) (ne-eqb _ _ (w .if-get-call .left)) in
+          cc
     ]
 
 pub returns : need.returns
