@@ -1,8 +1,10 @@
 // The calls on the keys of the seats, all in life 0.
 ghost use mathlib.Core.Path.{_≡_};
 ghost use mathlib.Core.Bool.{_&&_};
+ghost use lib.ListN.{replicate};
 ghost use Rattle.std.specs.Of.Vec.{vec-items};
-ghost use Rattle.replay.specs.Keys.{Changes, Tells, delete-on, key-at, merge-on, put-on};
+ghost use Rattle.std.specs.Vec.{made};
+ghost use Rattle.replay.specs.Keys.{Changes, Tells, delete-on, key-at, merge-on, no-state, put-on};
 ghost use Rattle.replay.specs.Places.{column-of, indexed, placed, there};
 use crate::calls::Spot;
 use crate::memory::Cockpit;
@@ -56,7 +58,9 @@ fn column(seat: u8) -> Result<ColumnIndex, Refusal>
 
 impl Cockpit {
     // With no writes.
-    pub fn new(heap: Global) -> Result<Cockpit, AllocError> {
+    pub fn new(heap: Global) -> Result<Cockpit, AllocError>
+        ensures { λ r. ⌜ made r (λ c. vec-items (c .states) ≡ replicate 96 no-state) ⌝ }
+    {
         let states = vec![in heap; BLANK_STATE; 96]?;
         Ok(Cockpit { states })
     }

@@ -1,6 +1,9 @@
 // The contexts that the gets of a scenario gave.
 ghost use mathlib.Core.Path.{_≡_};
+ghost use mathlib.Core.Bool.{cond};
+ghost use mathlib.Core.List.{[], _∷_, _++_};
 ghost use Rattle.std.specs.Of.Vec.{vec-items};
+ghost use Rattle.std.specs.Results.{isOk};
 ghost use Rattle.replay.specs.Gets.{context-given};
 use clock::Context;
 use std::alloc::AllocError;
@@ -17,17 +20,21 @@ pub struct Given {
 
 #[derive(Drop)]
 pub struct History {
-    gets: Vec<Given>,
+    pub(crate) gets: Vec<Given>,
 }
 
 impl History {
-    pub fn new(heap: Global) -> History {
+    pub fn new(heap: Global) -> History
+        ensures { λ r. ⌜ vec-items (r .gets) ≡ [] ⌝ }
+    {
         History {
             gets: Vec::new(heap),
         }
     }
 
-    pub fn add(&mut self, get: Given) -> Result<(), Refused<Given>> {
+    pub fn add(&mut self, get: Given) -> Result<(), Refused<Given>>
+        ensures { λ r. ⌜ vec-items (now (self .exit) .gets) ≡ cond (isOk r) (vec-items (now (self .entry) .gets) ++ get ∷ []) (vec-items (now (self .entry) .gets)) ⌝ }
+    {
         self.gets.push(get)
     }
 

@@ -1,4 +1,8 @@
 // Makes the calls of a scenario, one after another.
+ghost use mathlib.Core.Path.{_≡_};
+ghost use mathlib.Core.List.{_++_};
+ghost use Rattle.std.specs.Vec.{made};
+ghost use Rattle.replay.specs.Sessions.{Fresh, Makes, gets-of, gives};
 use crate::answers::Answer;
 use crate::answers::Outcome;
 use crate::calls::Call;
@@ -48,7 +52,10 @@ fn named_get(call: &Call) -> (u64, Option<u64>) {
 }
 
 impl Session {
-    pub fn new(heap: Global) -> Result<Session, AllocError> {
+    // With no writes, and no call made.
+    pub fn new(heap: Global) -> Result<Session, AllocError>
+        ensures { λ r. ⌜ made r Fresh ⌝ }
+    {
         Ok(Session {
             cockpit: Cockpit::new(heap)?,
             history: History::new(heap),
@@ -56,15 +63,11 @@ impl Session {
         })
     }
 
-    // The context that a get gave for a key, or one of nothing seen where no get is named.
-    fn context(&self, with: Option<u64>, key: u64) -> Option<Context> {
-        match with {
-            Some(call) => self.history.context(call, key),
-            None => Some(Context::none()),
-        }
-    }
-
-    fn get(&mut self, at: Spot) -> Result<Answer, AllocError> {
+    // Keeps the context under the number of the call.
+    fn get(&mut self, at: Spot) -> Result<Answer, AllocError>
+        ensures calls { λ r. ⌜ now (self .exit) .calls ≡ now (self .entry) .calls ⌝ }
+        ensures gets { λ r. ⌜ made r (λ a. gets-of (now (self .exit)) ≡ gets-of (now (self .entry)) ++ gives (now (self .entry) .calls) (at .key) a) ⌝ }
+    {
         match self.cockpit.get(at) {
             Ok(reading) => {
                 self.history
@@ -79,7 +82,9 @@ impl Session {
         }
     }
 
-    fn answer(&mut self, call: &Call, context: &Context) -> Result<Answer, AllocError> {
+    fn answer(&mut self, call: &Call, context: &Context) -> Result<Answer, AllocError>
+        ensures { λ r. ⌜ now (self .exit) .calls ≡ now (self .entry) .calls ⌝ }
+    {
         match *call {
             Call::Put { at, value, .. } => Ok(written(self.cockpit.put(at, value, context))),
             Call::Delete { at, .. } => Ok(done(self.cockpit.delete(at, context))),
@@ -88,14 +93,17 @@ impl Session {
         }
     }
 
-    // Makes a call, unless the get that it names is not there; then nothing changes.
-    pub fn make(&mut self, call: &Call) -> Result<Outcome, AllocError> {
+    // Makes a call, unless the get that it names is not there.
+    pub fn make(&mut self, call: &Call) -> Result<Outcome, AllocError>
+        ensures { λ r. ⌜ made r (Makes (now (self .entry)) (now (self .exit))) ⌝ }
+    {
         let (key, with) = named_get(call);
-        let Some(context) = self.context(with, key) else {
-            return Ok(Outcome::NoSuchGet {
-                call: with.unwrap_or(0),
-                key,
-            });
+        let context = match with {
+            None => Context::none(),
+            Some(get) => match self.history.context(get, key) {
+                Some(context) => context,
+                None => return Ok(Outcome::NoSuchGet { call: get, key }),
+            },
         };
         self.calls = self.calls.saturating_add(1);
         let answer = self.answer(call, &context)?;
