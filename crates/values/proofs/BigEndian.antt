@@ -8,12 +8,24 @@ use mathlib.Core.List.{List, [], _∷_}
 use mathlib.Core.Path.{_≡_, refl, sym, ap, _∙_}
 use mir.Facts.{fits-ofZ, sfits-toZ}
 use mir.Syntax.{Width, w8, w16, w32, w64, w128}
-use mir.Val.{SFits, bits, bytes, ofZ, toZ}
+use mir.Val.{Fits, SFits, bits, bytes, ofZ, toZ}
 use native.Mathlib.Nat.{mod-eq-of-lt, mod-one, mul-add-div-right, mul-add-mod-self-right, mul-assoc, pow-succ'}
 use native.Mathlib.Omega.{arith}
+use Rattle.std.proofs.shelf.Elements.{all-drop, all-from-getD, all-take}
 use Rattle.std.proofs.shelf.Lists.{length-drop, length-take-le}
 use Rattle.std.proofs.shelf.Signed.{ofZ-toZ, toZ-ofZ}
 use Rattle.values.specs.BigEndian.{Bytes, from-bytes, to-bytes, signed-from-bytes, signed-to-bytes}
+
+-- parts of bytes are bytes
+pub bytes-take : (n : ℕ) (bs : List ℕ) → Bytes bs → Bytes (take n bs)
+bytes-take = all-take (λ b. b < 256)
+
+pub bytes-drop : (n : ℕ) (bs : List ℕ) → Bytes bs → Bytes (drop n bs)
+bytes-drop = all-drop (λ b. b < 256)
+
+-- what a `u8` slice holds, from what the check knows of each element
+pub bytes-typed : (bs : List ℕ) → ((i : ℕ) → Fits w8 (getD bs i 0)) → Bytes bs
+bytes-typed bs typed = all-from-getD (λ b. b < 256) bs 0 (λ i h. typed i .fits)
 
 pub length-to-bytes : (width n : ℕ) → length (to-bytes width n) ≡ width
 length-to-bytes zero n = refl
@@ -58,7 +70,7 @@ to-from-bytes-all (b ∷ bs) u =
 pub to-from-bytes : (width : ℕ) (bs : List ℕ) → length bs ≡ width → Bytes bs → to-bytes width (from-bytes bs) ≡ bs
 to-from-bytes width bs l u = ap (λ w. to-bytes w (from-bytes bs)) (sym l) ∙ to-from-bytes-all bs u
 
--- the number that stands at place i, by its bytes
+-- the number that stands at place i, as a sum over its bytes: what `from_be_bytes` gives
 abbrev pub number-at : ℕ → ℕ → List ℕ → ℕ
 number-at zero i bs = 0
 number-at (suc width) i bs = getD bs i 0 * 256 ^ width + number-at width (suc i) bs

@@ -1,25 +1,18 @@
 -- A value's bytes read as the value; bytes of the right number read as a value, which writes them again. Assumes nothing.
-use Prim.Native.Nat.{ℕ, _<_, _^_}
+use Prim.Native.Nat.{ℕ}
 use lib.IntN.{ℤ}
 use lib.ListN.{length, take, drop}
 use mathlib.Core.List.{List, _++_}
 use mathlib.Core.Path.{_≡_, refl, ap, _∙_}
 use mir.Syntax.{w16, w32}
 use native.Mathlib.Omega.{arith}
-use Rattle.std.proofs.shelf.Elements.{all-take, all-drop}
 use Rattle.std.proofs.shelf.Lists.{length-drop, length-take-le, take-append-drop}
 use Rattle.values.specs.BigEndian.{Bytes, from-bytes, to-bytes}
 use Rattle.values.specs.Layouts.{setting-bytes, setting-of, SettingFits, detent-bytes, detent-of, DetentFits, place-bytes, place-of, PlaceFits}
 use Rattle.values.specs.declared.detent.Detent.{Detent}
 use Rattle.values.specs.declared.place.Place.{Place}
 use Rattle.values.specs.declared.setting.Setting.{Setting}
-use Rattle.values.proofs.BigEndian.{from-bytes-fits, from-to-bytes, to-from-bytes, signed-from-bytes-fits, signed-from-to-bytes, signed-to-from-bytes}
-
-pub bytes-take : (n : ℕ) (bs : List ℕ) → Bytes bs → Bytes (take n bs)
-bytes-take = all-take (λ b. b < 256)
-
-pub bytes-drop : (n : ℕ) (bs : List ℕ) → Bytes bs → Bytes (drop n bs)
-bytes-drop = all-drop (λ b. b < 256)
+use Rattle.values.proofs.BigEndian.{bytes-drop, bytes-take, from-bytes-fits, from-to-bytes, to-from-bytes, signed-from-bytes-fits, signed-from-to-bytes, signed-to-from-bytes}
 
 pub setting-back : (s : Setting) → SettingFits s → setting-of (setting-bytes s) ≡ s
 setting-back s fits =

@@ -18,7 +18,7 @@ pub impl PartialEq<Setting> for Setting as SettingPartialEq {
     ghost equals = { λ a b r. Decides r (a ≡ b) };
 
     fn eq(&self, other: &Setting) -> bool {
-        self.measure == other.measure && self.label == other.label
+        other.measure == self.measure && other.label == self.label
     }
 }
 

@@ -21,14 +21,18 @@ pub trait Value: Copy {
     // the value's numbers fit their machine types, and its arrays have their lengths
     ghost valid: { Self → Type 0 };
 
+    // 1 to 16 bytes
     law small: { (1 ≤ width) × (width ≤ 16) };
 
+    // a value fills its width with bytes
     law fills: { (v : Self) → valid v → length (bytesOf v) ≡ width };
 
     law bytes: { (v : Self) → valid v → Bytes (bytesOf v) };
 
+    // what a value wrote reads as that value
     law back: { (v : Self) → valid v → valueOf (bytesOf v) ≡ v };
 
+    // what bytes read as writes those bytes, and is valid
     law forth: { (bs : List ℕ) → length bs ≡ width → Bytes bs → bytesOf (valueOf bs) ≡ bs };
 
     law fits: { (bs : List ℕ) → length bs ≡ width → Bytes bs → valid (valueOf bs) };
@@ -36,13 +40,13 @@ pub trait Value: Copy {
     fn width() -> usize
         ensures { λ r. ⌜ r ≡ width ⌝ };
 
-    // Writes the first `width` bytes of `out`, and no others.
+    // Writes the first `width` bytes of `out`, and no others. For memory of any length there is `write_value`.
     fn write_to(&self, out: &mut [u8])
         requires { ⌜ width ≤ length (now out) ⌝ }
         ensures memory { λ _. ⌜ now (out .exit) ≡ bytesOf (now (self .entry)) ++ drop width (now (out .entry)) ⌝ }
         ensures valid { λ _. ⌜ valid (now (self .entry)) ⌝ };
 
-    // Reads the first `width` bytes of `src`.
+    // Reads the first `width` bytes of `src`. For memory of any length there is `read_value`.
     fn read_from(src: &[u8]) -> Self
         requires { ⌜ width ≤ length (now src) ⌝ }
         ensures value { λ r. ⌜ r ≡ valueOf (take width (now (src .entry))) ⌝ }

@@ -1,22 +1,20 @@
-use Prim.Native.Nat.{_<_}
 use borrow.Author.Needs.{needs}
-use lib.ListN.{length, take, drop}
+use lib.ListN.{take, drop}
 use mathlib.Core.List.{[], _++_}
-use mathlib.Core.Path.{_≡_, sym, subst}
+use mathlib.Core.Path.{_≡_}
 use mir.Syntax.{w32}
 use mir.Val.{ofZ, toZ}
-use native.Mathlib.Omega.{arith}
-use Rattle.std.proofs.shelf.Elements.{all-from-getD}
 use Rattle.std.proofs.shelf.Lists.{drop-take, length-take-le}
 use Rattle.values.specs.BigEndian.{Bytes}
 use Rattle.values.specs.Layouts.{setting-of}
-use Rattle.values.proofs.Layouts.{bytes-take, setting-fits}
+use Rattle.values.proofs.BigEndian.{bytes-take, bytes-typed}
+use Rattle.values.proofs.Layouts.{setting-fits}
 use Rattle.values.proofs.setting.SettingValue.read_from.Needs as need
 
 pub returns : need.returns
 returns c =
     let src = c .args .src .now in
-    let all : Bytes src = all-from-getD (λ b. b < 256) src 0 (λ i h. omega (arith, c .typed .src i)) in
+    let all : Bytes src = bytes-typed src (c .typed .src) in
     let label : c .copy-from-slice .last .self ++ [] ≡ drop 4 (take 16 src) = search (needs, drop-take 4 12 src) in
     let measure : toZ w32 (ofZ w32 (c .from-be-bytes .result)) ≡ setting-of (take 16 src) .measure = search needs in
     let fits = setting-fits (take 16 src) (length-take-le 16 src (c .pre)) (bytes-take 16 src all) in
