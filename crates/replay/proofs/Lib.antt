@@ -1,0 +1,4 @@
+pub mod Printing
+pub mod Finding
+pub mod Listed
+pub mod Told

@@ -1,0 +1,5 @@
+pub mod Labels
+pub mod Places
+pub mod Gets
+pub mod Keys
+pub mod Sessions

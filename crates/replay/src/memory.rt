@@ -1,0 +1,29 @@
+// The memory of the sixteen keys of the six seats, and what is read from it.
+ghost use mathlib.Core.Path.{_≡_};
+ghost use Rattle.std.specs.Of.Vec.{vec-len};
+use clock::Context;
+use clock::Row;
+use dvvset::Sibling;
+use values::Setting;
+
+// What a seat has of a key.
+#[derive(Clone, Copy)]
+pub struct KeyState {
+    pub rows: [Row; 24],
+    pub cells: [Setting; 96],
+}
+
+// A state for each seat and key, the sixteen of seat 0 first.
+#[derive(Drop)]
+pub struct Cockpit {
+    pub(crate) states: Vec<KeyState>,
+    ghost whole: { vec-len states ≡ 96 },
+}
+
+// What a get tells: the first `count` of the siblings, and the context.
+#[derive(Clone, Copy)]
+pub struct Reading {
+    pub siblings: [Sibling<Setting>; 96],
+    pub count: usize,
+    pub context: Context,
+}

@@ -1,0 +1,268 @@
+#!/usr/bin/env python3
+"""A second replay of scenarios, by sets of events.
+
+Each seat has for each key the set of the events that it knows. An event is an
+accepted put or delete, and covers the writes that its context holds. What a seat
+holds of a key are the known writes that no known event covers.
+
+Reads a scenario from standard input and prints what each call answers.
+"""
+
+import re
+import sys
+
+SEATS = 6
+KEYS = 16
+LAST_COUNTER = 999_999
+MOST_OWN = 4
+
+
+class BadLine(Exception):
+    """A line that is no call."""
+
+
+class Refused(Exception):
+    """A call that is refused, with the number of its kind."""
+
+
+class Event:
+    """An accepted put (with a dot and a value) or delete (with neither)."""
+
+    def __init__(self, covers, dot=None, value=None):
+        self.covers = covers
+        self.dot = dot
+        self.value = value
+
+
+def writes(events):
+    return frozenset(event for event in events if event.dot is not None)
+
+
+def held(known):
+    covered = set()
+    for event in known:
+        covered |= event.covers
+    return writes(known) - covered
+
+
+def tops(known):
+    highest = {}
+    for event in writes(known):
+        column, counter = event.dot
+        highest[column] = max(highest.get(column, 0), counter)
+    return highest
+
+
+class Cockpit:
+    """What the seats know of the keys; all seats are in their first life."""
+
+    def __init__(self):
+        self.known = {(seat, key): frozenset() for seat in range(SEATS) for key in range(KEYS)}
+
+    def check(self, seat, key):
+        if (seat, key) not in self.known:
+            raise Refused(10)
+
+    def put(self, seat, key, value, context):
+        self.check(seat, key)
+        known = self.known[seat, key]
+        own = 4 * seat
+        top = tops(known).get(own, 0)
+        if top == LAST_COUNTER:
+            raise Refused(8)
+        left = [event for event in held(known) - context if event.dot[0] == own]
+        if len(left) == MOST_OWN:
+            raise Refused(7)
+        event = Event(writes(context), (own, top + 1), value)
+        self.known[seat, key] = known | context | {event}
+        return event.dot
+
+    def delete(self, seat, key, context):
+        self.check(seat, key)
+        event = Event(writes(context))
+        self.known[seat, key] = self.known[seat, key] | context | {event}
+
+    def get(self, seat, key):
+        self.check(seat, key)
+        return self.known[seat, key]
+
+    def exchange(self, source, target, key):
+        self.check(source, key)
+        self.check(target, key)
+        self.known[target, key] = self.known[target, key] | self.known[source, key]
+
+
+def number(part, word, low, high, sign):
+    if not re.fullmatch(sign + r"[0-9]+", word):
+        raise BadLine(f"bad {part}: {word}")
+    value = int(word)
+    if not low <= value <= high:
+        raise BadLine(f"bad {part}: {word}")
+    return value
+
+
+class Words:
+    """The words of a line that are not read yet."""
+
+    def __init__(self, line):
+        self.rest = [word for word in re.split(r"[ \t\r\f\n]+", line) if word]
+
+    def word(self, part):
+        if not self.rest:
+            raise BadLine(f"the {part} is missing")
+        return self.rest.pop(0)
+
+    def number(self, part):
+        return number(part, self.word(part), 0, 2**64 - 1, r"\+?")
+
+    def measure(self):
+        return number("measure", self.word("measure"), -(2**31), 2**31 - 1, r"[+-]?")
+
+    def label(self):
+        word = self.word("label")
+        if not re.fullmatch(r"[!-~]{1,12}", word):
+            raise BadLine(f"bad label: {word}")
+        return word
+
+    def context(self):
+        if self.rest and self.rest[0] == "with":
+            self.rest.pop(0)
+            return self.number("call number")
+        return None
+
+    def end(self):
+        if self.rest:
+            raise BadLine(f"a word too many: {self.rest[0]}")
+
+
+class Replay:
+    """A scenario in the course of being played."""
+
+    def __init__(self):
+        self.cockpit = Cockpit()
+        self.calls = 0
+        self.gets = {}
+
+    def seen(self, call, key):
+        if call is None:
+            return frozenset()
+        if call not in self.gets or self.gets[call][0] != key:
+            raise BadLine(f"call {call} is no earlier get of key {key}")
+        return self.gets[call][1]
+
+    def put(self, words):
+        seat = words.number("seat")
+        key = words.number("key")
+        measure = words.measure()
+        label = words.label()
+        call = words.context()
+        words.end()
+        context = self.seen(call, key)
+        said = f"put {seat} {key} {measure} {label}" + with_words(call)
+
+        def run():
+            column, counter = self.cockpit.put(seat, key, (measure, label), context)
+            return f"column {column} counter {counter}"
+
+        return said, run
+
+    def delete(self, words):
+        seat = words.number("seat")
+        key = words.number("key")
+        call = words.context()
+        words.end()
+        context = self.seen(call, key)
+
+        def run():
+            self.cockpit.delete(seat, key, context)
+            return "done"
+
+        return f"delete {seat} {key}" + with_words(call), run
+
+    def get(self, words):
+        seat = words.number("seat")
+        key = words.number("key")
+        words.end()
+
+        def run():
+            known = self.cockpit.get(seat, key)
+            self.gets[self.calls] = (key, known)
+            return reading(known)
+
+        return f"get {seat} {key}", run
+
+    def exchange(self, words):
+        source = words.number("sending seat")
+        target = words.number("receiving seat")
+        key = words.number("key")
+        words.end()
+
+        def run():
+            self.cockpit.exchange(source, target, key)
+            return "done"
+
+        return f"exchange {source} {target} {key}", run
+
+    def play(self, line):
+        words = Words(line)
+        if not words.rest:
+            return None
+        readers = {"put": self.put, "delete": self.delete, "get": self.get, "exchange": self.exchange}
+        name = words.rest.pop(0)
+        if name not in readers:
+            raise BadLine(f"no such call: {name}")
+        said, run = readers[name](words)
+        self.calls += 1
+        try:
+            answer = run()
+        except Refused as refusal:
+            answer = f"refused {refusal}"
+        return f"{self.calls} {said}: {answer}"
+
+
+def with_words(call):
+    return "" if call is None else f" with {call}"
+
+
+def reading(known):
+    siblings = sorted(held(known), key=lambda event: (event.dot[0], -event.dot[1]))
+    counts = {0: "no values", 1: "1 value"}
+    lines = [counts.get(len(siblings), f"{len(siblings)} values")]
+    for event in siblings:
+        column, counter = event.dot
+        measure, label = event.value
+        lines.append(f"column {column} counter {counter}: {measure} {label}")
+    pairs = [f"{column}:{top}" for column, top in sorted(tops(known).items())]
+    lines.append("context: " + (" ".join(pairs) or "nothing"))
+    return "\n    ".join(lines)
+
+
+def play(text):
+    """What is printed for the text of a scenario."""
+    replay = Replay()
+    lines = text.split("\n")
+    if lines[-1] == "":
+        lines.pop()
+    out = []
+    for at, line in enumerate(lines, 1):
+        if line.endswith("\r"):
+            line = line[:-1]
+        if line.startswith("#"):
+            out.append(line)
+            continue
+        try:
+            answer = replay.play(line)
+        except BadLine as bad:
+            answer = f"line {at}: {bad}"
+        if answer is not None:
+            out.append(answer)
+    return "".join(line + "\n" for line in out)
+
+
+def main():
+    text = sys.stdin.buffer.read().decode("utf-8")
+    sys.stdout.buffer.write(play(text).encode("utf-8"))
+
+
+if __name__ == "__main__":
+    main()
