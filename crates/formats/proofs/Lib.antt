@@ -1,4 +1,5 @@
 pub mod Steps
+pub mod Walking
 pub mod Rising
 pub mod Codes
 pub mod Columns

@@ -7,7 +7,7 @@ use Prim.Native.Nat.{ℕ, zero, suc, _+_, _<_, _≤_}
 use native.Mathlib.Omega.{arith}
 use lib.Dec.{eqb, ltb}
 use lib.ListN.{length}
-use Rattle.std.proofs.shelf.Tests.{eqb-true, eq-eqb, ne-eqb, le-ltb, lt-ltb, ltb-true, ltb-false, cond-true, cond-false, cases-bool}
+use Rattle.std.proofs.shelf.Tests.{eqb-true, cond-true, cond-false, cases-bool}
 use Rattle.std.specs.declared.result.Result.{Result}
 use Rattle.std.specs.declared.result.Result.the-variants.{Ok, Err}
 use Rattle.std.specs.shelf.Lists.{All}
@@ -15,8 +15,9 @@ use Rattle.refusals.specs.declared.Refusal.{Refusal}
 use Rattle.refusals.specs.declared.Refusal.the-variants.{Truncated, OutOfOrder}
 use Rattle.values.specs.BigEndian.{Bytes}
 use Rattle.formats.specs.Frames.{rising-fields}
-use Rattle.formats.specs.Reading.{Told, then, in-front, rising}
-use Rattle.formats.proofs.Steps.{ok-same, then-ok, then-goes}
+use Rattle.formats.specs.Reading.{Told, in-front, rising}
+use Rattle.formats.proofs.Steps.{ok-same, then-ok}
+use Rattle.formats.proofs.Walking.{turn-here, turn-later}
 
 -- One kind of field: `field-of` writes it, and `told` reads it.
 pub record Kind {A : Type 0} (absent : A → Bool) (field-of : ℕ → A → List ℕ) (told : ℕ → List ℕ → Result (Told A) Refusal) (nothing : A) (good : A → Type 0) : Type 0 where
@@ -33,22 +34,6 @@ module _ {A : Type 0} (absent : A → Bool) (field-of : ℕ → A → List ℕ) 
 
   abbrev read : ℕ → ℕ → ℕ → List ℕ → Result (List A) Refusal
   read = rising told nothing
-
-  -- ---- one turn, where there is a field at the front
-
-  turn : (n c at : ℕ) (bs : List ℕ) (f : Told A) → told at bs ≡ Ok f → read (suc n) c at bs ≡ cond (ltb (f .column) c) (Err (OutOfOrder at)) (cond (eqb (f .column) c) (in-front (f .what) (read n (c + 1) (f .next) (f .rest))) (in-front nothing (read n (c + 1) at bs)))
-  unfolding rising
-  turn n c at [] f e = absurd (let p = kind .at-end at in let z : _≡_ {A = ℕ} 0 1 = cc in omega arith)
-  turn n c at (b ∷ bs) f e = ap (λ r. then r (λ g. cond (ltb (g .column) c) (Err (OutOfOrder at)) (cond (eqb (g .column) c) (in-front (g .what) (rising told nothing n (c + 1) (g .next) (g .rest))) (in-front nothing (rising told nothing n (c + 1) at (b ∷ bs)))))) e
-
-  pub turn-here : (n c at : ℕ) (bs : List ℕ) (f : Told A) → told at bs ≡ Ok f → f .column ≡ c → read (suc n) c at bs ≡ in-front (f .what) (read n (c + 1) (f .next) (f .rest))
-  turn-here n c at bs f e is = turn n c at bs f e ∙ cond-false (ltb (f .column) c) _ _ (le-ltb (f .column) c (omega arith)) ∙ cond-true (eqb (f .column) c) _ _ (eq-eqb (f .column) c is)
-
-  pub turn-later : (n c at : ℕ) (bs : List ℕ) (f : Told A) → told at bs ≡ Ok f → c < f .column → read (suc n) c at bs ≡ in-front nothing (read n (c + 1) at bs)
-  turn-later n c at bs f e lt = turn n c at bs f e ∙ cond-false (ltb (f .column) c) _ _ (le-ltb (f .column) c (omega arith)) ∙ cond-false (eqb (f .column) c) _ _ (ne-eqb (f .column) c (λ (p : f .column ≡ c). omega arith))
-
-  pub turn-earlier : (n c at : ℕ) (bs : List ℕ) (f : Told A) → told at bs ≡ Ok f → f .column < c → read (suc n) c at bs ≡ Err (OutOfOrder at)
-  turn-earlier n c at bs f e lt = turn n c at bs f e ∙ cond-true (ltb (f .column) c) _ _ (lt-ltb (f .column) c lt)
 
   -- ---- what is written reads back
 
@@ -75,7 +60,7 @@ module _ {A : Type 0} (absent : A → Bool) (field-of : ℕ → A → List ℕ) 
   pass : (n c at : ℕ) (bs : List ℕ) → First at (c + 1) bs → read (suc n) c at bs ≡ in-front nothing (read n (c + 1) at bs)
   unfolding rising
   pass n c at bs first =
-      ⊎-elim (λ (p : bs ≡ []). rw p refl) (λ q. turn-later n c at bs (q .0) (q .1) (omega (arith, q .2))) first
+      ⊎-elim (λ (p : bs ≡ []). rw p refl) (λ q. turn-later told nothing (kind .at-end) n c at bs (q .0) (q .1) (omega (arith, q .2))) first
 
   pub reads-back : (n c at : ℕ) (xs : List A) → length xs ≡ n → c + n ≡ 24 → All good xs → read n c at (fields c xs) ≡ Ok xs
   unfolding rising
@@ -90,7 +75,7 @@ module _ {A : Type 0} (absent : A → Bool) (field-of : ℕ → A → List ℕ) 
           (λ (p : absent a ≡ true). ap (read (suc n) c at) (fields-gone c a xs p) ∙ pass n c at (fields (c + 1) xs) (first-field at (c + 1) xs (omega arith) (h .1)) ∙ ap (in-front nothing) (rest at) ∙ ap (λ b. Ok (b ∷ xs)) (sym (kind .absent-nothing a (h .0) p)))
           (λ (p : absent a ≡ false).
           let w = kind .written at c a (fields (c + 1) xs) (omega arith) (h .0) p in
-          ap (read (suc n) c at) (fields-here c a xs p) ∙ turn-here n c at (field-of c a ++ fields (c + 1) xs) _ (w .1) refl ∙ ap (in-front a) (rest (w .0)))
+          ap (read (suc n) c at) (fields-here c a xs p) ∙ turn-here told nothing (kind .at-end) n c at (field-of c a ++ fields (c + 1) xs) _ (w .1) refl ∙ ap (in-front a) (rest (w .0)))
           (cases-bool (absent a))
 
   -- ---- what is read was so written
