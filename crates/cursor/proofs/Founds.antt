@@ -42,7 +42,7 @@ pub record FoundHead (due at : ℕ) (bs : List ℕ) (key : ℕ) : Type 0 where
   pub low : key ≤ 15
   pub long : 4 ≤ length bs
 
-head-rest : (due at : ℕ) (bs : List ℕ) (h : HeadBytes) → head due at bs ≡ Ok h → FoundHead due at bs (h .key)
+pub head-rest : (due at : ℕ) (bs : List ℕ) (h : HeadBytes) → head due at bs ≡ Ok h → FoundHead due at bs (h .key)
 head-rest due at bs h e =
     let u = then-ok (tagged due at bs) _ h e in
     let bd = u .0 .body in

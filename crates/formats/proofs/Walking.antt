@@ -12,7 +12,7 @@ use Rattle.std.specs.declared.result.Result.{Result}
 use Rattle.std.specs.declared.result.Result.the-variants.{Ok, Err}
 use Rattle.refusals.specs.declared.Refusal.{Refusal}
 use Rattle.refusals.specs.declared.Refusal.the-variants.{Truncated, OutOfOrder}
-use Rattle.formats.specs.Reading.{Told, then, in-front, rising}
+use Rattle.formats.specs.Reading.{Told, then, in-front, rising, verdict}
 use Rattle.formats.proofs.Steps.{ok-same, then-ok}
 
 module _ {A : Type 0} (told : ℕ → List ℕ → Result (Told A) Refusal) (nothing : A) (at-end : (at : ℕ) → told at [] ≡ Err (Truncated at)) where
@@ -35,12 +35,7 @@ module _ {A : Type 0} (told : ℕ → List ℕ → Result (Told A) Refusal) (not
   pub turn-earlier : (n c at : ℕ) (bs : List ℕ) (f : Told A) → told at bs ≡ Ok f → f .column < c → read (suc n) c at bs ≡ Err (OutOfOrder at)
   turn-earlier n c at bs f e lt = turn n c at bs f e ∙ cond-true (ltb (f .column) c) _ _ (lt-ltb (f .column) c lt)
 
-
   -- ---- a walk
-
-  -- whether there is a refusal, and which
-  abbrev pub verdict : {B : Type 0} → Result B Refusal → Result (Unit {0}) Refusal
-  verdict r = then r (λ b. Ok tt)
 
   -- at the end of the bytes
   pub walk-end : (n c at : ℕ) → read n c at [] ≡ Ok (replicate n nothing)

@@ -130,3 +130,13 @@ reading w valueOf bs = then (head 1 0 bs) (λ h. then (rising (column-told w val
 
 unfoldable pub context-reading : List ℕ → Result (Keyed (List ℕ)) Refusal
 context-reading bs = then (head 3 0 bs) (λ h. then (rising top-told 0 columns 0 4 (h .rest)) (λ C. Ok (record { key = h .key; what = C })))
+
+-- ---- what a check answers
+
+-- the refusal, or nothing more
+abbrev pub verdict : {A : Type 0} → Result A Refusal → Result (Unit {0}) Refusal
+verdict r = then r (λ a. Ok tt)
+
+-- the refusal, or the key
+abbrev pub key-of : {A : Type 0} → Result (Keyed A) Refusal → Result ℕ Refusal
+key-of r = then r (λ k. Ok (k .key))
