@@ -3,19 +3,18 @@ use mathlib.Core.Path.{_≡_, refl, sym, ap, _∙_}
 use mathlib.Core.List.{List, [], _∷_, _++_}
 use Prim.Native.Nat.{ℕ, zero, suc, _+_, _-_, _*_, _≤_, _<_}
 use native.Mathlib.Omega.{arith}
-use lib.Dec.{leb}
 use lib.ListN.{length, take, drop, set, getD}
 use lib.Seq.{paste}
 use Rattle.std.proofs.shelf.Lists.{append-nil, append-assoc, length-append, length-map, length-take-le, getD-map, getD-take, take-all, getD-past, ext-getD}
 use Rattle.std.proofs.shelf.Edits.{paste-more, paste-all, paste-paste}
-use Rattle.std.proofs.shelf.Tests.{cond-both, leb-true, and-parts, cases-lt}
+use Rattle.std.proofs.shelf.Tests.{cases-lt}
 use mathlib.Core.Logic.{⊎-elim}
 use Rattle.dvvset.specs.Clock.{ColumnState, State, context, no-writes}
 use Rattle.dvvset.specs.Listing.{dotted, siblings, siblings-from}
 use Rattle.dvvset.specs.declared.writes.Sibling.{Sibling}
-use Rattle.clock.specs.Memory.{sound, top-of, count-of, column, no-row, state}
+use Rattle.clock.specs.Memory.{top-of, count-of, column, no-row, state}
 use Rattle.clock.specs.declared.rows.Row.{Row}
-use Rattle.clock.proofs.Whole.{length-state, getD-state, length-column, column-part}
+use Rattle.clock.proofs.Whole.{bounds, length-state, getD-state, length-column, column-part}
 
 module _ {V : Type 0} where
   length-dotted : (c n : ℕ) (vs : List V) → length (dotted c n vs) ≡ length vs
@@ -98,9 +97,6 @@ module _ {V : Type 0} where
 
 -- ---- the tops
 
-pub low : (r : Row) → top-of r ≤ 999999
-low r = cond-both (sound r) (r .top) 0 (λ x. x ≤ 999999) (λ e. leb-true (r .top) 999999 (and-parts (leb (r .count) (r .top)) _ (and-parts (leb (r .count) 4) _ e .1) .1)) (λ e. omega arith)
-
 module _ {V : Type 0} (rows : List Row) (cells : List V) where
   pub length-context : length (context (state rows cells)) ≡ 24
   unfolding context
@@ -115,4 +111,4 @@ module _ {V : Type 0} (rows : List Row) (cells : List V) where
 
   pub context-low : (c : ℕ) → getD (context (state rows cells)) c 0 ≤ 999999
   context-low c =
-      ⊎-elim (λ (h : c < 24). omega (arith, getD-context c h, low (getD rows c no-row))) (λ (h : 24 ≤ c). omega (arith, getD-past (context (state rows cells)) c 0 (omega (arith, length-context)))) (cases-lt c 24)
+      ⊎-elim (λ (h : c < 24). omega (arith, getD-context c h, bounds (getD rows c no-row) .1)) (λ (h : 24 ≤ c). omega (arith, getD-past (context (state rows cells)) c 0 (omega (arith, length-context)))) (cases-lt c 24)

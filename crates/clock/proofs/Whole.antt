@@ -1,21 +1,30 @@
 -- What a write to one row, and to its four cells, makes of the state. Assumes nothing.
 use mathlib.Core.Path.{_≡_, refl, sym, ap, _∙_}
 use mathlib.Core.List.{List, _++_}
+use mathlib.Core.Bool.{Bool, true, false, cond}
 use mathlib.Core.Logic.{_≢_, ⊎-elim}
 use Prim.Native.Nat.{ℕ, _+_, _*_, _≤_, _<_}
 use native.Mathlib.Omega.{arith}
+use lib.Dec.{leb}
 use lib.ListN.{length, take, drop, set, getD}
 use borrow.Rule.Slice.PartMut.{putMid}
-use Rattle.std.proofs.shelf.Lists.{length-take-le, length-drop, length-set, take-append-le, take-take, drop-take, drop-at, getD-set-same, getD-set-other, ext-getD}
+use Rattle.std.proofs.shelf.Lists.{length-take, length-take-le, length-drop, getD-past, length-set, take-append-le, take-take, drop-take, drop-at, getD-set-same, getD-set-other, ext-getD}
 use Rattle.std.proofs.shelf.Counted.{length-map-counting, getD-map-counting}
 use Rattle.std.proofs.shelf.Parts.{take-putMid-below, drop-putMid}
-use Rattle.std.proofs.shelf.Tests.{cases-order, cond-both, leb-true, and-parts}
-use Rattle.dvvset.specs.Clock.{ColumnState, no-writes}
+use Rattle.std.proofs.shelf.Tests.{cases-lt, cases-order, cond-both, leb-true, and-parts}
+use Rattle.dvvset.specs.Clock.{ColumnState, Legal, LegalState, no-writes, column-at}
 use Rattle.clock.specs.Memory.{sound, top-of, count-of, column, no-row, state}
 use Rattle.clock.specs.declared.rows.Row.{Row}
 
 pub few : (r : Row) → count-of r ≤ 4
 few r = cond-both (sound r) (r .count) 0 (λ x. x ≤ 4) (λ e. leb-true (r .count) 4 (and-parts _ _ e .0)) (λ e. omega arith)
+
+pub bounds : (r : Row) → (count-of r ≤ top-of r) × (top-of r ≤ 999999)
+bounds r = go (sound r) refl
+  where
+    go : (b : Bool) → sound r ≡ b → (cond b (r .count) 0 ≤ cond b (r .top) 0) × (cond b (r .top) 0 ≤ 999999)
+    go true e = let p = and-parts (leb (r .count) 4) _ e in let q = and-parts (leb (r .count) (r .top)) _ (p .1) in (leb-true (r .count) (r .top) (q .0), leb-true (r .top) 999999 (q .1))
+    go false e = (omega arith, omega arith)
 
 module _ {V : Type 0} where
   -- a column has its values in the first four cells
@@ -79,3 +88,16 @@ module _ {V : Type 0} where
             let f : length (take (4 * c) cells) ≡ 4 * c = length-take-le (4 * c) cells (omega arith) in
             rw (drop-at (take (4 * c) cells) (ys ++ drop k (drop (4 * c) cells)) (4 * c) f)
             (ap (λ vs. record { top = top-of r; values = vs }) (take-append-le (count-of r) ys (drop k (drop (4 * c) cells)) (omega (arith, few r))))
+
+  -- whatever memory holds, it means a legal state
+  pub state-legal : (rows : List Row) (cells : List V) → LegalState (state rows cells)
+  state-legal rows cells = record { wide = length-state rows cells; each = each }
+    where
+      each : (c : ℕ) → Legal (column-at (state rows cells) c)
+      each c = ⊎-elim (λ (h : c < 24). rw (getD-state rows cells c no-writes h) (legal (getD rows c no-row) (drop (4 * c) cells))) (λ (h : 24 ≤ c). rw (getD-past (state rows cells) c no-writes (omega (arith, length-state rows cells))) blank) (cases-lt c 24)
+        where
+          legal : (r : Row) (vs : List V) → Legal (column r vs)
+          legal r vs = let l = length-take (count-of r) vs in let b = bounds r in record { few = omega (arith, few r); within = omega (arith, b .0); low = b .1 }
+
+          blank : Legal (no-writes {V = V})
+          blank = record { few = omega arith; within = omega arith; low = omega arith }

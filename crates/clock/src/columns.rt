@@ -42,7 +42,7 @@ impl Column {
     }
 
     // With the first n of its values alone.
-    pub(crate) fn first(self, n: u32) -> Column
+    pub fn first(self, n: u32) -> Column
         ensures top { λ r. ⌜ r .top ≡ self .top ⌝ }
         ensures count { λ r. ⌜ r .count ≡ min n (self .count) ⌝ }
     {

@@ -19,7 +19,7 @@ use dvvset::Dot;
 use refusals::Refusal;
 
 // Whether there is memory enough for one key.
-pub(crate) fn has_room<V>(rows: &[Row], cells: &[V]) -> bool
+pub fn has_room<V>(rows: &[Row], cells: &[V]) -> bool
     ensures value { λ r. ⌜ r ≡ roomy (now (rows .entry)) (now (cells .entry)) ⌝ }
     ensures enough { λ r. ⌜ (T r → (24 ≤ length (now (rows .entry))) × (96 ≤ length (now (cells .entry)))) ⌝ }
 {

@@ -1,14 +1,15 @@
 -- The laws of a column's merge. Assumes nothing.
-use mathlib.Core.Path.{_≡_, sym, ap, _∙_}
-use mathlib.Core.List.{map}
+use mathlib.Core.Path.{_≡_, refl, sym, ap, _∙_}
+use mathlib.Core.List.{List, [], _∷_, map}
 use mathlib.Core.Logic.{⊎-elim}
 use Prim.Native.Nat.{ℕ, min, max, _+_, _-_, _≤_, _<_}
 use native.Mathlib.Omega.{arith}
 use lib.Dec.{leb}
 use lib.ListN.{length, take, getD}
+use lib.Seq.{take-nil}
 use Rattle.std.proofs.shelf.Lists.{length-take, length-map, getD-take, take-map, take-all}
 use Rattle.std.proofs.shelf.Tests.{le-leb, lt-leb, cond-true, cond-false, cases-lt, cases-order}
-use Rattle.dvvset.specs.Clock.{ColumnState, Legal, first, merge-column}
+use Rattle.dvvset.specs.Clock.{ColumnState, Legal, no-writes, first, merge-column}
 use Rattle.dvvset.specs.Laws.{Holds, Agree, mapped}
 use Rattle.dvvset.proofs.Lists.{take-min, pointwise, alike}
 
@@ -58,6 +59,22 @@ module _ {V : Type 0} where
   pub idempotent : (a : ColumnState V) → merge-column a a ≡ a
   idempotent a =
       merge-left a a (omega arith) ∙ (let e : a .top - a .top + length (a .values) ≡ length (a .values) = omega arith in first-same _ _ a e) ∙ ap (λ vs. record { top = a .top; values = vs }) (take-all (length (a .values)) (a .values) (omega arith))
+
+  -- a column without writes changes nothing
+  pub merge-nothing : (a : ColumnState V) → length (a .values) ≤ a .top → merge-column a no-writes ≡ a
+  merge-nothing a h = merge-left a no-writes (omega arith) ∙ ap (λ vs. record { top = a .top; values = vs }) (take-all (a .top - 0 + 0) (a .values) (omega arith))
+
+  pub nothing-merge : (a : ColumnState V) → length (a .values) ≤ a .top → merge-column no-writes a ≡ a
+  nothing-merge a h =
+      ⊎-elim (λ (lt : 0 < a .top). merge-right no-writes a lt ∙ ap (λ vs. record { top = a .top; values = vs }) (take-all (a .top - 0 + 0) (a .values) (omega arith)))
+      (λ (le : a .top ≤ 0). merge-left no-writes a le ∙ empty a (omega arith) (omega arith)) (cases-lt 0 (a .top))
+    where
+      none : (vs : List V) → length vs ≡ 0 → [] ≡ vs
+      none [] e = refl
+      none (v ∷ vs) e = absurd (omega arith)
+
+      empty : (b : ColumnState V) → b .top ≡ 0 → length (b .values) ≡ 0 → first (0 - b .top + length (b .values)) no-writes ≡ b
+      empty b t l = let e : first (0 - b .top + length (b .values)) no-writes ≡ no-writes = ap (λ vs. record { top = 0; values = vs }) (take-nil (0 - b .top + length (b .values))) in e ∙ ap (λ n. record { top = n; values = [] }) (sym t) ∙ ap (λ vs. record { top = b .top; values = vs }) (none (b .values) l)
 
   -- ---- a merge of which one side is the first n values of a column
 

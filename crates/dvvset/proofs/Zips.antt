@@ -1,7 +1,7 @@
 -- Two lists joined place by place, at once and by a loop. Assumes nothing.
 use mathlib.Core.Path.{_≡_, refl, ap}
 use mathlib.Core.List.{List, [], _∷_}
-use Prim.Native.Nat.{ℕ, zero, suc, min, _+_, _<_}
+use Prim.Native.Nat.{ℕ, zero, suc, min, _+_, _<_, _≤_}
 use native.Mathlib.Omega.{arith}
 use lib.ListN.{length, set, getD}
 use Rattle.dvvset.specs.Clock.{zip-with}
@@ -44,3 +44,23 @@ module _ {A B : Type 0} (f : A → B → A) where
   upto-all (suc i) [] ys h k = refl
   upto-all (suc i) (x ∷ xs) [] h k = refl
   upto-all (suc i) (x ∷ xs) (y ∷ ys) h k = ap (λ zs. f x y ∷ zs) (upto-all i xs ys (omega arith) (omega arith))
+
+  -- turns that change nothing may be left out
+  pub upto-skip : (c d : ℕ) (xs : List A) (ys : List B) (x : A) (y : B) → c ≤ d → d ≤ length xs → d ≤ length ys → ((i : ℕ) → c ≤ i → i < d → f (getD xs i x) (getD ys i y) ≡ getD xs i x) → upto f c xs ys ≡ upto f d xs ys
+  upto-skip zero zero xs ys x y l m n h = refl
+  upto-skip (suc c) zero xs ys x y l m n h = absurd (omega arith)
+  upto-skip c (suc d) [] ys x y l m n h = absurd (omega arith)
+  upto-skip c (suc d) (a ∷ xs) [] x y l m n h = absurd (omega arith)
+  upto-skip zero (suc d) (a ∷ xs) (b ∷ ys) x y l m n h =
+      let e = h 0 (omega arith) (omega arith) in
+      let r = upto-skip zero d xs ys x y (omega arith) (omega arith) (omega arith) (λ i p q. h (suc i) (omega arith) (omega arith)) in
+      cc
+  upto-skip (suc c) (suc d) (a ∷ xs) (b ∷ ys) x y l m n h = ap (λ zs. f a b ∷ zs) (upto-skip c d xs ys x y (omega arith) (omega arith) (omega arith) (λ i p q. h (suc i) (omega arith) (omega arith)))
+
+  -- the places that are not done yet
+  pub getD-upto : (c i : ℕ) (xs : List A) (ys : List B) (x : A) → c ≤ i → length ys ≡ length xs → getD (upto f c xs ys) i x ≡ getD xs i x
+  getD-upto zero i xs ys x l e = refl
+  getD-upto (suc c) i [] ys x l e = refl
+  getD-upto (suc c) i (a ∷ xs) [] x l e = absurd (omega arith)
+  getD-upto (suc c) zero (a ∷ xs) (b ∷ ys) x l e = absurd (omega arith)
+  getD-upto (suc c) (suc i) (a ∷ xs) (b ∷ ys) x l e = getD-upto c i xs ys x (omega arith) (omega arith)
