@@ -1,1 +1,3 @@
 pub mod Walks
+pub mod Values_read
+pub mod Fields_merged

@@ -1,4 +1,5 @@
 // State frames: checked, merged into lent memory, loaded and written.
 mod checking;
+mod merging;
 
 pub use checking::check;
