@@ -7,7 +7,7 @@ use Prim.Native.Nat.{ℕ, zero, suc, _+_, _-_, _<_, _≤_}
 use native.Mathlib.Omega.{arith}
 use lib.Dec.{eqb, ltb}
 use lib.ListN.{length, drop, getD, replicate}
-use Rattle.std.proofs.shelf.Tests.{eq-eqb, ne-eqb, le-ltb, lt-ltb, cond-true, cond-false, cases-eq}
+use Rattle.std.proofs.shelf.Tests.{eq-eqb, ne-eqb, le-ltb, lt-ltb, cond-true, cond-false, cases-order}
 use Rattle.std.specs.declared.result.Result.{Result}
 use Rattle.std.specs.declared.result.Result.the-variants.{Ok, Err}
 use Rattle.refusals.specs.declared.Refusal.{Refusal}
@@ -97,3 +97,21 @@ module _ {A : Type 0} (told : ℕ → List ℕ → Result (Told A) Refusal) (not
           go : (i : ℕ) → i < suc k → getD (nothing ∷ ys) i nothing ≡ nothing
           go zero l = refl
           go (suc i) l = w .before i (omega arith)
+
+  wide-front : (a : A) (n : ℕ) (r : Result (List A) Refusal) (xs : List A) → ((ys : List A) → r ≡ Ok ys → length ys ≡ n) → in-front a r ≡ Ok xs → length xs ≡ suc n
+  wide-front a n r xs h e = let u = then-ok r _ xs e in ap length (sym (ok-same (u .2))) ∙ ap suc (h (u .0) (u .1))
+
+  -- an accepted walk tells of each column
+  pub walk-wide : (n c at : ℕ) (bs : List ℕ) (xs : List A) → read n c at bs ≡ Ok xs → length xs ≡ n
+  unfolding rising
+  walk-wide zero c at [] xs e = ap length (sym (ok-same e))
+  walk-wide zero c at (b ∷ bs) xs e = absurd (let u = then-ok (told at (b ∷ bs)) _ xs e in let p = u .2 in let z : _≡_ {A = ℕ} 0 1 = cc in omega arith)
+  walk-wide (suc n) c at [] xs e = wide-front nothing n (read n (c + 1) at []) xs (λ ys p. walk-wide n (c + 1) at [] ys p) e
+  walk-wide (suc n) c at (b ∷ bs) xs e = let u = then-ok (told at (b ∷ bs)) _ xs e in split (u .0) (u .1) (λ next rest ys p. walk-wide n (c + 1) next rest ys p)
+    where
+      split : (f : Told A) → told at (b ∷ bs) ≡ Ok f → ((next : ℕ) (rest : List ℕ) (ys : List A) → read n (c + 1) next rest ≡ Ok ys → length ys ≡ n) → length xs ≡ suc n
+      split f t h =
+          ⊎-elim (λ (p : f .column ≡ c). wide-front (f .what) n (read n (c + 1) (f .next) (f .rest)) xs (h (f .next) (f .rest)) (sym (turn-here n c at (b ∷ bs) f t p) ∙ e))
+          (⊎-elim (λ (p : f .column < c). absurd (let q = sym (turn-earlier n c at (b ∷ bs) f t p) ∙ e in let z : _≡_ {A = ℕ} 0 1 = cc in omega arith))
+          (λ (p : c < f .column). wide-front nothing n (read n (c + 1) at (b ∷ bs)) xs (h at (b ∷ bs)) (sym (turn-later n c at (b ∷ bs) f t p) ∙ e)))
+          (cases-order (f .column) c)

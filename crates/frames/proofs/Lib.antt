@@ -1,3 +1,4 @@
 pub mod Walks
 pub mod Values_read
 pub mod Fields_merged
+pub mod Merges

@@ -13,8 +13,13 @@ use Rattle.dvvset.specs.Clock.{ColumnState, State, no-writes}
 use Rattle.formats.specs.Reading.{Head, Told, then, head, column-of, column-told, rising, values-of, verdict, key-of, reading}
 use Rattle.formats.proofs.Steps.{ok-same, then-ok}
 use Rattle.formats.proofs.Walking.{Walked, walk-end, walk-refused, walk-past, walk-verdict, walk-found}
-use Rattle.cursor.specs.Seen.{Shown, a-column, column-seen}
+use Rattle.cursor.specs.Seen.{a-column, column-seen, shown}
+use Rattle.cursor.specs.declared.fields.Field.{Field}
 use Rattle.cursor.proofs.Founds.{FoundColumn, column-found, column-refused, head-rest}
+
+-- the field that a cursor over the frame handed out
+pub here-seen : (w at : ℕ) (bytes frame : List ℕ) (x y : Field) → x ≡ y → Ok (shown x) ≡ column-seen w at (drop at bytes) → bytes ≡ frame → Ok (shown y) ≡ column-seen w at (drop at frame)
+here-seen w at bytes frame x y e h is = ap (λ f. Ok (shown f)) (sym e) ∙ h ∙ ap (λ d. column-seen w at (drop at d)) is
 
 module _ {V : Type 0} (w : ℕ) (valueOf : List ℕ → V) (bs : List ℕ) where
   abbrev told : ℕ → List ℕ → Result (Told (ColumnState V)) Refusal
@@ -31,7 +36,7 @@ module _ {V : Type 0} (w : ℕ) (valueOf : List ℕ → V) (bs : List ℕ) where
   abbrev found : (at c n t : ℕ) (vs : List ℕ) → Told (ColumnState V)
   found at c n t vs = record { column = c; what = column n t vs; next = at + (9 + length vs); rest = drop (at + (9 + length vs)) bs }
 
-  told-here : (at c n t : ℕ) (vs : List ℕ) → FoundColumn w at (drop at bs) c n t vs → told at (drop at bs) ≡ Ok (found at c n t vs)
+  pub told-here : (at c n t : ℕ) (vs : List ℕ) → FoundColumn w at (drop at bs) c n t vs → told at (drop at bs) ≡ Ok (found at c n t vs)
   told-here at c n t vs f = ap (λ r. then r (λ q. Ok (column-of w valueOf q))) (f .is) ∙ ap (λ d. Ok (record { column = c; what = column n t vs; next = at + (9 + length vs); rest = d })) (drop-drop (9 + length vs) at bs)
 
   pub at-the-end : (c at : ℕ) → length bs ≤ at → verdict (read c at) ≡ Ok tt

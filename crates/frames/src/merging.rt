@@ -45,3 +45,27 @@ fn merge_field<V: Value>(mine: Row, cells: &mut [V], count: u8, top: u32, values
     read_values(values, count as usize, cells);
     b.first(b.top - a.top + a.count as u32).row()
 }
+
+// Merges the state of a frame that was checked into the key's.
+pub(crate) fn merge_fields<V: Value>(frame: &[u8], rows: &mut [Row], cells: &mut [V])
+    requires frame { ⌜ isOk (reading (V·Value .width) (V·Value .valueOf) (now frame)) ≡ true ⌝ }
+    requires rows { ⌜ 24 ≤ length (now rows) ⌝ }
+    requires cells { ⌜ 96 ≤ length (now cells) ⌝ }
+    ensures state { λ _. ⌜ state (now (rows .exit)) (now (cells .exit)) ≡ merged (state (now (rows .entry)) (now (cells .entry))) (state-read (reading (V·Value .width) (V·Value .valueOf) (now (frame .entry)))) ⌝ }
+    ensures rows { λ _. ⌜ drop 24 (now (rows .exit)) ≡ drop 24 (now (rows .entry)) ⌝ }
+    ensures cells { λ _. ⌜ drop 96 (now (cells .exit)) ≡ drop 96 (now (cells .entry)) ⌝ }
+{
+    let mut cursor = Cursor { bytes: frame, at: 4 };
+    'walk: while !cursor.ended() {
+        match cursor.column::<V>() {
+            Err(_) => unreachable(),
+            Ok(field) => match field {
+                Field::Column { column, count, top, values, .. } => {
+                    let c = column as usize;
+                    rows[c] = merge_field(rows[c], &mut cells[4 * c..4 * c + 4], count, top, values);
+                }
+                _ => unreachable(),
+            },
+        }
+    }
+}

@@ -3,12 +3,11 @@ use Prim.Native.Nat.{_+_, _-_, _≤_}
 use native.Mathlib.Omega.{arith}
 use borrow.Author.Needs.{needs}
 use lib.ListN.{length, drop}
-use Rattle.std.specs.declared.result.Result.the-variants.{Ok}
 use Rattle.dvvset.specs.Clock.{no-writes}
 use Rattle.formats.specs.Reading.{column-told, rising, verdict}
 use Rattle.cursor.specs.Seen.{shown, span, column-seen}
 use Rattle.cursor.proofs.Founds.{column-found}
-use Rattle.frames.proofs.Walks.{at-the-end, at-refused, at-past, at-next}
+use Rattle.frames.proofs.Walks.{here-seen, at-the-end, at-refused, at-past, at-next}
 use Rattle.frames.proofs.checking.check_columns.Needs as need
 
 pub returns-in-Err : need.returns-in-Err
@@ -24,7 +23,7 @@ returns-then-column-from g c =
     let w = g .V·Value .width in
     let f = c .in-Column in
     let at = c .walk .cursor .1 .0 in
-    let h = ap (λ x. Ok (shown x)) (sym (f .is)) ∙ c .in-Ok .ensures tt .value ∙ ap (λ d. column-seen w at (drop at d)) (c .walk .inv .0) in
+    let h = here-seen w at _ (c .args .frame .now) _ _ (f .is) (c .in-Ok .ensures tt .value) (c .walk .inv .0) in
     sym (c .walk .inv .3 ∙ at-past w (g .V·Value .valueOf) (c .args .frame .now) (c .walk .from) at (f .column) (f .count) (f .top) (f .values .now) (f .at) h (c .if-column-from .taken))
 
 pub walk-again : need.walk-again
@@ -33,7 +32,7 @@ walk-again g c =
     let f = c .in-Column in
     let at = c .walk .cursor .1 .0 in
     let frame = c .args .frame .now in
-    let h = ap (λ x. Ok (shown x)) (sym (f .is)) ∙ c .in-Ok .ensures tt .value ∙ ap (λ d. column-seen w at (drop at d)) (c .walk .inv .0) in
+    let h = here-seen w at _ (c .args .frame .now) _ _ (f .is) (c .in-Ok .ensures tt .value) (c .walk .inv .0) in
     let low = column-found w at (drop at frame) (f .column) (f .count) (f .top) (f .values .now) (f .at) h .1 .low in
     let moved = c .in-Ok .ensures tt .moved ∙ ap (λ x. at + span (shown x)) (f .is) in
     let same = c .in-Ok .ensures tt .same ∙ c .walk .inv .0 in
