@@ -1,7 +1,7 @@
 -- The bytes of a state frame and of a context. Assumes nothing.
 use mathlib.Core.List.{List, [], _∷_, _++_}
 use mathlib.Core.Bool.{Bool, cond}
-use Prim.Native.Nat.{ℕ, _+_}
+use Prim.Native.Nat.{ℕ, _+_, _*_}
 use lib.Dec.{eqb}
 use lib.ListN.{length}
 use Rattle.std.specs.shelf.Lists.{joined}
@@ -34,6 +34,14 @@ column-field bytesOf c a = field 2 (c ∷ length (a .values) ∷ (to-bytes 4 (a 
 -- tag 01: the key; then tag 02 for each column with a top
 unfoldable pub frame : {V : Type 0} → (V → List ℕ) → ℕ → State V → List ℕ
 frame bytesOf key S = head-field 1 key ++ rising-fields unwritten (column-field bytesOf) 0 S
+
+-- how many bytes that is, where a value has w: 9 for each column with a top, and its values
+abbrev pub fields-length : {V : Type 0} → ℕ → State V → ℕ
+fields-length w [] = 0
+fields-length w (a ∷ S) = cond (unwritten a) 0 (9 + w * length (a .values)) + fields-length w S
+
+abbrev pub frame-length : {V : Type 0} → ℕ → State V → ℕ
+frame-length w S = 4 + fields-length w S
 
 -- ---- contexts
 

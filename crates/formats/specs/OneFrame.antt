@@ -8,7 +8,7 @@ use Rattle.std.specs.shelf.Lists.{All}
 use Rattle.values.specs.BigEndian.{Bytes}
 use Rattle.dvvset.specs.Limits.{columns, last-counter}
 use Rattle.dvvset.specs.Clock.{State, LegalState, column-at}
-use Rattle.formats.specs.Frames.{frame, context-frame}
+use Rattle.formats.specs.Frames.{frame, frame-length, context-frame}
 use Rattle.formats.specs.Reading.{reading, context-reading}
 
 -- every value fits its machine type
@@ -20,6 +20,7 @@ pub record OneFrame {V : Type 0} (width : ℕ) (bytesOf : V → List ℕ) (value
   pub of-state : (key : ℕ) (S : State V) → key ≤ 15 → LegalState S → Fit valid S → reading width valueOf (frame bytesOf key S) ≡ Ok (record { key = key; what = S })
   -- bytes that are accepted are the frame of the legal state that they read as
   pub of-bytes : (bs : List ℕ) (key : ℕ) (S : State V) → Bytes bs → reading width valueOf bs ≡ Ok (record { key = key; what = S }) → (key ≤ 15) × LegalState S × Fit valid S × (frame bytesOf key S ≡ bs)
+  pub long : (key : ℕ) (S : State V) → LegalState S → Fit valid S → length (frame bytesOf key S) ≡ frame-length width S
   pub longest : (key : ℕ) (S : State V) → LegalState S → Fit valid S → length (frame bytesOf key S) ≤ 4 + 24 * (9 + 4 * width)
 
 -- A context that can be: 24 tops, none over 999,999.

@@ -1,4 +1,5 @@
 -- What a call with a frame comes to. Assumes nothing.
+use mathlib.Core.Bool.{Bool}
 use mathlib.Core.List.{List}
 use Prim.Native.Nat.{ℕ}
 use Rattle.std.specs.declared.result.Result.{Result}
@@ -8,14 +9,21 @@ use Rattle.dvvset.specs.Clock.{State, Outcome, refused, accepted, blank, merge}
 use Rattle.clock.specs.Calls.{in-room}
 use Rattle.clock.specs.Memory.{state, roomy}
 use Rattle.clock.specs.declared.rows.Row.{Row}
-use Rattle.formats.specs.Reading.{Keyed}
+use Rattle.formats.specs.Reading.{Keyed, reading}
 
 -- the state that was read, if one was
 abbrev pub state-read : {V : Type 0} → Result (Keyed (State V)) Refusal → State V
 state-read (Ok k) = k .what
 state-read (Err e) = blank
 
--- f of what was read, or the refusal
-abbrev pub accepting : {A S : Type 0} → Result (Keyed A) Refusal → (A → S) → Outcome ℕ S
-accepting (Ok k) f = accepted (k .key) (f (k .what))
-accepting (Err e) f = refused e
+-- f of what was read, if there is room; the frame's refusal comes first
+abbrev pub accepting : {A S : Type 0} → Bool → Result (Keyed A) Refusal → (A → S) → Outcome ℕ S
+accepting room (Ok k) f = in-room room (accepted (k .key) (f (k .what)))
+accepting room (Err e) f = refused e
+
+-- a frame merged into a key's state, and one loaded in its place; the answer is the frame's key
+abbrev pub merging-frame : {V : Type 0} → ℕ → (List ℕ → V) → List ℕ → List Row → List V → Outcome ℕ (State V)
+merging-frame w valueOf bs rows cells = accepting (roomy rows cells) (reading w valueOf bs) (λ T. merge (state rows cells) T)
+
+abbrev pub loading-frame : {V : Type 0} → ℕ → (List ℕ → V) → List ℕ → List Row → List V → Outcome ℕ (State V)
+loading-frame w valueOf bs rows cells = accepting (roomy rows cells) (reading w valueOf bs) (λ T. T)

@@ -1,5 +1,7 @@
 // State frames: checked, merged into lent memory, loaded and written.
 mod checking;
 mod merging;
+mod taking;
 
 pub use checking::check;
+pub use taking::{load_frame, merge_frame};
