@@ -12,6 +12,7 @@ pub use columns::Column;
 pub use contexts::Context;
 pub use indices::ColumnIndex;
 pub use keys::discard;
+pub use keys::has_room;
 pub use keys::merge;
 pub use keys::put;
 pub use listing::context_of;

@@ -14,5 +14,5 @@ unfolding merge
 merge-blank T legal =
     ext-getD no-writes (merge blank T) T (length-zip merge-column blank T ∙ (let w = legal .wide in let e : min 24 (length T) ≡ length T = omega arith in e))
     (λ i h.
-      let l : i < 24 = omega (arith, length-zip merge-column (blank {V = _}) T, legal .wide) in
-      getD-zip merge-column i blank T no-writes no-writes no-writes (omega arith) (omega (arith, legal .wide)) ∙ ap (λ a. merge-column a (getD T i no-writes)) (getD-replicate 24 i no-writes no-writes l) ∙ nothing-merge (getD T i no-writes) (legal .each i .within))
+    let l : i < 24 = omega (arith, length-zip merge-column (blank {V = _}) T, legal .wide) in
+    getD-zip merge-column i blank T no-writes no-writes no-writes (omega arith) (omega (arith, legal .wide)) ∙ ap (λ a. merge-column a (getD T i no-writes)) (getD-replicate 24 i no-writes no-writes l) ∙ nothing-merge (getD T i no-writes) (legal .each i .within))

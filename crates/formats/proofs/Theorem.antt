@@ -48,9 +48,9 @@ module _ {V : Type 0} {width : ℕ} {bytesOf : V → List ℕ} {valueOf : List �
       record {
         of-state = λ key S k legal fit. whole-reads unwritten (column-field bytesOf) told no-writes (Good valid) (kind code) 1 key S k (legal .wide) (columns-good S legal fit);
         of-bytes = λ bs key S b e.
-          let w = whole-written unwritten (column-field bytesOf) told no-writes (Good valid) (kind code) 1 bs key S b e in
-          (w .low, record { wide = w .wide; each = λ i. column-good S (w .each) i .legal }, (λ i. column-good S (w .each) i .fit), w .is);
+            let w = whole-written unwritten (column-field bytesOf) told no-writes (Good valid) (kind code) 1 bs key S b e in
+            (w .low, record { wide = w .wide; each = λ i. column-good S (w .each) i .legal }, (λ i. column-good S (w .each) i .fit), w .is);
         long = λ key S legal fit. omega (arith, length-fields 0 S (columns-good S legal fit));
         longest = λ key S legal fit.
-          omega (arith, fields-short unwritten (column-field bytesOf) told no-writes (Good valid) (kind code) 1 (9 + 4 * width) (λ i a h. let l = length-body code i a h in omega (arith, l .0, l .1)) 0 S (columns-good S legal fit), ap (λ n. (9 + 4 * width) * n) (legal .wide));
+            omega (arith, fields-short unwritten (column-field bytesOf) told no-writes (Good valid) (kind code) 1 (9 + 4 * width) (λ i a h. let l = length-body code i a h in omega (arith, l .0, l .1)) 0 S (columns-good S legal fit), ap (λ n. (9 + 4 * width) * n) (legal .wide));
       }

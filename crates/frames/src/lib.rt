@@ -4,4 +4,5 @@ mod merging;
 mod taking;
 
 pub use checking::check;
-pub use taking::{load_frame, merge_frame};
+pub use taking::load_frame;
+pub use taking::merge_frame;

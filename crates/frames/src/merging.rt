@@ -55,14 +55,29 @@ pub(crate) fn merge_fields<V: Value>(frame: &[u8], rows: &mut [Row], cells: &mut
     ensures rows { λ _. ⌜ drop 24 (now (rows .exit)) ≡ drop 24 (now (rows .entry)) ⌝ }
     ensures cells { λ _. ⌜ drop 96 (now (cells .exit)) ≡ drop 96 (now (cells .entry)) ⌝ }
 {
-    let mut cursor = Cursor { bytes: frame, at: 4 };
+    let mut cursor = Cursor {
+        bytes: frame,
+        at: 4,
+    };
     'walk: while !cursor.ended() {
         match cursor.column::<V>() {
             Err(_) => unreachable(),
             Ok(field) => match field {
-                Field::Column { column, count, top, values, .. } => {
+                Field::Column {
+                    column,
+                    count,
+                    top,
+                    values,
+                    ..
+                } => {
                     let c = column as usize;
-                    rows[c] = merge_field(rows[c], &mut cells[4 * c..4 * c + 4], count, top, values);
+                    rows[c] = merge_field(
+                        rows[c],
+                        &mut cells[4 * c..4 * c + 4],
+                        count,
+                        top,
+                        values,
+                    );
                 }
                 _ => unreachable(),
             },
