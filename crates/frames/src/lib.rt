@@ -2,6 +2,7 @@
 mod checking;
 mod merging;
 mod taking;
+mod writing;
 
 pub use checking::check;
 pub use taking::load_frame;
