@@ -87,3 +87,21 @@ fn write_head(key: u8, out: &mut [u8])
     out[2] = 1;
     out[3] = key;
 }
+
+// The field of a row at `at`, if its column has a top; the answer is the place behind it.
+fn write_field<V: Value>(c: u8, row: Row, cells: &[V], out: &mut [u8], at: usize) -> usize
+    requires cells { ⌜ length (now cells) ≡ 4 ⌝ }
+    requires room { ⌜ at + cond (eqb (top-of row) 0) 0 (9 + V·Value .width * count-of row) ≤ length (now out) ⌝ }
+    ensures at { λ r. ⌜ r ≡ at + cond (eqb (top-of row) 0) 0 (9 + V·Value .width * count-of row) ⌝ }
+    ensures out { λ r. ⌜ now (out .exit) ≡ take at (now (out .entry)) ++ (cond (eqb (top-of row) 0) [] (column-field (V·Value .bytesOf) c (column row (now (cells .entry)))) ++ drop r (now (out .entry))) ⌝ }
+    ensures valid { λ _. ⌜ All (V·Value .valid) (take (count-of row) (now (cells .entry))) ⌝ }
+{
+    let a = Column::of(row);
+    if a.top == 0 {
+        return at;
+    }
+    let count = a.count as usize;
+    let end = at + (9 + V::width() * count);
+    write_column(c, a, &cells[0..count], &mut out[at..end]);
+    end
+}
