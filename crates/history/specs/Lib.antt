@@ -1,0 +1,6 @@
+pub mod Events
+pub mod Calls
+pub mod Shown
+pub mod Machine
+pub mod Clocks
+pub mod Refines
