@@ -294,19 +294,23 @@ module _ {V : Type 0} where
     pub column-old : (o : ℕ) (v : V) (t f : ℕ) → t ≤ highest c H → column-of (next o v H ∷ H) c t f ≡ column-of H c t f
     column-old o v t f l = ap (λ ws. made t (take (t - f) (map (λ w. w .value) ws))) (down-old H full o v c t l)
 
+    -- the column, with one more write
+    pub down-next : (v : V) → down c (highest c H + 1) (next c v H ∷ H) ≡ next c v H ∷ down c (highest c H) H
+    down-next v =
+        let t : ℕ = highest c H in
+        let dot : has-dot c (suc t) (next c v H) ≡ true = and-from (eqb c c) (eqb (t + 1) (suc t)) (eq-eqb c c refl) (eq-eqb (t + 1) (suc t) (add-one t)) in
+        ap (λ m. down c m (next c v H ∷ H)) (add-one t)
+        ∙ ap (λ x. x ++ down c t (next c v H ∷ H)) (cond-true (has-dot c (suc t) (next c v H)) (next c v H ∷ []) (the c (suc t) H) dot)
+        ∙ ap (λ x. next c v H ∷ x) (down-old H full c v c t (omega arith))
+
     -- put
     pub push-of : (v : V) (f : ℕ) → f ≤ highest c H → push v (column-of H c (highest c H) f) ≡ column-of (next c v H ∷ H) c (highest c H + 1) f
     unfolding push
     push-of v f l =
         let t : ℕ = highest c H in
         let y : suc (t - f) ≡ t + 1 - f = omega arith in
-        let dot : has-dot c (suc t) (next c v H) ≡ true = and-from (eqb c c) (eqb (t + 1) (suc t)) (eq-eqb c c refl) (eq-eqb (t + 1) (suc t) (add-one t)) in
-        let d : down c (t + 1) (next c v H ∷ H) ≡ next c v H ∷ down c t H =
-        ap (λ m. down c m (next c v H ∷ H)) (add-one t)
-        ∙ ap (λ x. x ++ down c t (next c v H ∷ H)) (cond-true (has-dot c (suc t) (next c v H)) (next c v H ∷ []) (the c (suc t) H) dot)
-        ∙ ap (λ x. next c v H ∷ x) (down-old H full c v c t (omega arith)) in
         ap (λ m. made (t + 1) (take m (v ∷ map (λ w. w .value) (down c t H)))) y
-        ∙ sym (ap (λ ws. made (t + 1) (take (t + 1 - f) (map (λ w. w .value) ws))) d)
+        ∙ sym (ap (λ ws. made (t + 1) (take (t + 1 - f) (map (λ w. w .value) ws))) (down-next v))
 
     -- ---- dots
 

@@ -38,6 +38,9 @@ set-key-all P f s k x here there =
 pub set-key-same : {A : Type 0} (f : ℕ → ℕ → A) (s k : ℕ) (x : A) → set-key f s k x s k ≡ x
 set-key-same f s k x = ap (λ g. g k) (cond-true (eqb s s) (set-at (f s) k x) (f s) (eq-eqb s s refl)) ∙ cond-true (eqb k k) x (f s k) (eq-eqb k k refl)
 
+pub set-key-other : {A : Type 0} (f : ℕ → ℕ → A) (s k : ℕ) (x : A) (r : ℕ) → (r ≡ s → ⊥) → set-key f s k x r k ≡ f r k
+set-key-other f s k x r d = ap (λ g. g k) (cond-false (eqb r s) (set-at (f s) k x) (f r) (ne-eqb r s d))
+
 -- ---- sets within sets
 
 pub within-all : {A : Type 0} (xs ys zs : List A) → Within xs ys → Within ys zs → Within xs zs
@@ -361,7 +364,8 @@ module _ {V : Type 0} where
     ways : Ways bytesOf w (λ r. GoodAt (w .calls + 1) (r .world))
     ways =
         record {
-          stays = λ a. plainly w at-next;
+          refuses = λ e. plainly w at-next;
+          misnames = plainly w at-next;
           gets = λ s k. plainly _ (inv-hand-out H E (w .calls + 1) w at-next _ (at-next .knows s k));
           sends = λ s k. plainly _ (inv-hand-out H E (w .calls + 1) w at-next _ (at-next .knows s k));
           puts = putting;
@@ -387,9 +391,9 @@ module _ {V : Type 0} where
                   (within-join s k C None);
             }
 
-        putting : (s k : ℕ) (x : Context) (C : Events V) (v : V) → context-for w k x ≡ Some C → Puttable w s k C
+        putting : (s k : ℕ) (x : Context) (v : V) (C : Events V) → context-for w k x ≡ Some C → Puttable w s k C
             → GoodAt (w .calls + 1) (with-owed (learn w s k (join (w .calls) (w .known s k) C (Some (new-write w s k v)))) (set-key (w .owed) s k (Some (w .calls))))
-        putting s k x C v c p =
+        putting s k x v C c p =
             let y : Option (Write V) = Some (new-write w s k v) in
             let i = with-event C y in
             let h = context-fits H (E-with C y) (w .calls + 1) w i k x C c in

@@ -8,3 +8,4 @@ pub mod Good
 pub mod Sane
 pub mod Image
 pub mod Runs
+pub mod Sanity

@@ -18,7 +18,7 @@ use Rattle.history.proofs.Sets.{the-outside}
 use Rattle.history.proofs.Columns.{Named}
 use Rattle.history.proofs.Keys.{SoundSet}
 
-has-here : {A : Type 0} (x : A) (xs : List A) → Has (x ∷ xs) x
+pub has-here : {A : Type 0} (x : A) (xs : List A) → Has (x ∷ xs) x
 has-here x xs = (0, omega arith, λ d. refl)
 
 all-joined : {X A : Type 0} (P : A → Type 0) (f : X → List A) (xs : List X) → ((x : X) → All P (f x)) → All P (joined f xs)

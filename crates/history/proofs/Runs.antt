@@ -10,12 +10,13 @@ use lib.ListN.{length, getD}
 use Rattle.std.proofs.shelf.Elements.{all-has-itself}
 use Rattle.std.proofs.shelf.Tests.{eq-eqb, ne-eqb, cond-true, cond-false, cases-eq}
 use Rattle.refusals.specs.declared.Refusal.the-variants.{MediumFull}
+use Rattle.formats.specs.Frames.{frame}
 use Rattle.history.specs.Events.{Events}
 use Rattle.history.specs.Calls.{Receipt, Call, save, Answer, got, sent, done, refused-by, misnamed, named, spendable, spend}
 use Rattle.history.specs.Shown.{shown, frame-bytes}
 use Rattle.history.specs.Machine.{Gift, no-gift, context-of, frame-of, World, with-owed, keep, Step, to, step, next, after, answers, start}
 use Rattle.history.specs.Clocks.{ClockStep, clock-tick, clock-step, clock-after, clock-answers, clock-start}
-use Rattle.history.specs.Refines.{Within, NothingForgotten, Refines}
+use Rattle.history.specs.Refines.{Within, was-sent, NothingForgotten, Refines}
 use Rattle.history.proofs.Cases.{Ways, by-step}
 use Rattle.history.proofs.Good.{set-key-same, set-key-all, within-all, Good, good-start, good-step}
 use Rattle.history.proofs.Sane.{sane}
@@ -65,10 +66,11 @@ module _ {V : Type 0} (bytesOf : V → List ℕ) where
       ways : Ways bytesOf w (λ r. (s k : ℕ) → Within (w .kept s k) (r .world .kept s k))
       ways =
           record {
-            stays = λ a. same;
+            refuses = λ e. same;
+            misnames = same;
             gets = λ s k. same;
             sends = λ s k. same;
-            puts = λ s k x C v c p. same;
+            puts = λ s k x v C c p. same;
             deletes = λ s k x C c. same;
             delivers = λ s k t F c. same;
             saves = λ s k r. set-key-all (λ i j K. Within (w .kept i j) K) (w .kept) s k (w .known s k) (good .inv .within s k) same;
@@ -132,7 +134,8 @@ module _ {V : Type 0} (bytesOf : V → List ℕ) where
       ways : Ways bytesOf w (Handed w)
       ways =
           record {
-            stays = λ a. none (to w a) refl refl;
+            refuses = λ e. none _ refl refl;
+            misnames = none _ refl refl;
             gets = λ s k. record {
               same-calls = refl;
               old = elsewhere _;
@@ -146,7 +149,7 @@ module _ {V : Type 0} (bytesOf : V → List ℕ) where
                   let b : w .known s k ≡ K = cc in
                   ap₂ (λ x y. sent (frame-bytes bytesOf x y)) a b;
             };
-            puts = λ s k x C v c p. none _ refl refl;
+            puts = λ s k x v C c p. none _ refl refl;
             deletes = λ s k x C c. none _ refl refl;
             delivers = λ s k t F c. none _ refl refl;
             saves = λ s k r. none _ refl refl;
@@ -209,6 +212,10 @@ refines V =
             shows = record { lives = λ s. ap (λ D. D .life s) world; known = λ s k. ap (λ D. D .known s k) world; kept = λ s k. ap (λ D. D .kept s k) world };
             sane = sane (after bytesOf start calls) good;
             sent-bytes = sent-bytes bytesOf calls;
+            equal-bytes = λ t u k K L p q same.
+                sent-bytes bytesOf calls t k K p
+                ∙ ap (λ S. sent (frame bytesOf k S)) (sane (after bytesOf start calls) good .same-shown k K L (was-sent t p) (was-sent u q) same)
+                ∙ sym (sent-bytes bytesOf calls u k L q);
           };
       nothing-forgotten = λ bytesOf. nothing-forgotten bytesOf;
     }

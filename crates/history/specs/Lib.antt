@@ -4,3 +4,5 @@ pub mod Shown
 pub mod Machine
 pub mod Clocks
 pub mod Refines
+pub mod Sanity
+pub mod Scenarios

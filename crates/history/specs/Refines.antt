@@ -56,6 +56,9 @@ pub record Refined {V : Type 0} (bytesOf : V → List ℕ) (calls : List (Call V
   pub sane : Sane (after bytesOf start calls)
   -- what a send handed out is what it answered
   pub sent-bytes : (t k : ℕ) (K : Events V) → after bytesOf start calls .given t ≡ frame-of k K → getD (answers bytesOf start calls) t misnamed ≡ sent (frame-bytes bytesOf k K)
+  -- sends of one key, at any seats and times, that knew the same gave the same bytes
+  pub equal-bytes : (t u k : ℕ) (K L : Events V) → after bytesOf start calls .given t ≡ frame-of k K → after bytesOf start calls .given u ≡ frame-of k L → SameMembers K L
+      → getD (answers bytesOf start calls) t misnamed ≡ getD (answers bytesOf start calls) u misnamed
 
 -- What a seat knew at an accepted save of a key it knows ever after.
 abbrev pub NothingForgotten : {V : Type 0} → (V → List ℕ) → Type 0
