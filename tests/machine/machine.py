@@ -1,9 +1,9 @@
 #!/usr/bin/env python3
-"""The plain machine by Python's sets, written from docs/MACHINE.md alone.
+"""The plain machine of docs/MACHINE.md, by Python's sets; its bytes by docs/FRAMES.md.
 
 It prints crates/history/specs/Scenarios.antt: lists of calls, each with the answer
-that this program worked out. The check proves that the machine of the crate gives
-the same answers. Values are single bytes.
+that this program worked out. The check proves that the machine and the clocks of the
+crate give the same answers. Values are single bytes.
 """
 from collections import namedtuple
 
@@ -184,6 +184,7 @@ use Rattle.dvvset.specs.declared.writes.Dot.{Dot}
 use Rattle.dvvset.specs.declared.writes.Sibling.{Sibling}
 use Rattle.history.specs.Calls.{blind, seen-at, no-receipt, receipt-of, Call, get, put, delete, send, deliver, save, restart, Answer, wrote, got, sent, done, live, mute, refused-by, misnamed}
 use Rattle.history.specs.Machine.{answers, start}
+use Rattle.history.specs.Clocks.{clock-answers, clock-start}
 
 abbrev pub dot : ℕ → ℕ → Dot
 dot c n = record { column = c; counter = n }
@@ -199,9 +200,10 @@ abbrev pub turn : Call ℕ → Answer ℕ → Turn
 turn c a = record { asked = c; answered = a }
 """
 
-FOOTER = """-- The machine gives these answers; a value is one byte.
-abbrev pub Scenarios : Type 0
-Scenarios = map (λ turns. answers (λ v. v ∷ []) start (map (λ t. t .asked) turns)) scenarios ≡ map (λ turns. map (λ t. t .answered) turns) scenarios
+FOOTER = """-- The machine gives these answers, and so do the clocks; a value is one byte.
+pub record Scenarios : Type 0 where
+  pub by-machine : map (λ turns. answers (λ v. v ∷ []) start (map (λ t. t .asked) turns)) scenarios ≡ map (λ turns. map (λ t. t .answered) turns) scenarios
+  pub by-clocks : map (λ turns. clock-answers (λ v. v ∷ []) clock-start (map (λ t. t .asked) turns)) scenarios ≡ map (λ turns. map (λ t. t .answered) turns) scenarios
 """
 
 

@@ -1,8 +1,8 @@
 -- The ways that a step of the machine can go, so that a proof names each once. Assumes nothing.
 use mathlib.Core.Path.{_≡_, refl}
-use mathlib.Core.List.{List, [], _++_}
+use mathlib.Core.List.{List, _++_}
 use mathlib.Core.Bool.{Bool, true, false, cond, _&&_}
-use Prim.Native.Nat.{ℕ, _+_, _<_, _≤_}
+use Prim.Native.Nat.{ℕ, _+_, _<_}
 use lib.Dec.{eqb, leb, ltb}
 use lib.ListN.{length}
 use Rattle.std.specs.declared.option.Option.{Option}
@@ -13,9 +13,9 @@ use Rattle.refusals.specs.declared.Refusal.the-variants.{MediumFull}
 use Rattle.dvvset.specs.declared.writes.Dot.{Dot}
 use Rattle.dvvset.specs.Limits.{most-siblings, last-counter}
 use Rattle.history.specs.Events.{Write, Events, writes, outside, held, highest, newest}
-use Rattle.history.specs.Calls.{Context, Receipt, Call, get, put, delete, send, deliver, save, restart, Answer, wrote, got, sent, done, live, mute, refused-by, misnamed, named, next-life, spendable, spend, set-key}
+use Rattle.history.specs.Calls.{Context, Receipt, Call, get, put, delete, send, deliver, save, restart, Answer, wrote, got, sent, done, refused-by, misnamed, named, spendable, spend, set-key}
 use Rattle.history.specs.Shown.{listing, frame-bytes, context-bytes}
-use Rattle.history.specs.Machine.{Gift, context-of, frame-of, World, own, learn, with-owed, hand-out, keep, wake, Step, to, context-for, frame-in, with-set, join, step}
+use Rattle.history.specs.Machine.{context-of, frame-of, World, own, learn, with-owed, hand-out, keep, wake, Step, to, context-for, frame-in, with-set, join, step}
 
 module _ {V : Type 0} where
   -- the write that a put makes, and its dot

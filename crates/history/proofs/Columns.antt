@@ -6,16 +6,16 @@ use mathlib.Core.Logic.{⊎-elim}
 use Prim.Native.Nat.{ℕ, zero, suc, min, max, _+_, _-_, _≤_, _<_}
 use native.Mathlib.Omega.{arith}
 use native.Mathlib.Numerals.{add-one}
-use lib.Dec.{eqb, leb}
+use lib.Dec.{eqb}
 use lib.ListN.{length, take, length-take, length-map}
 use lib.Seq.{take-nil}
 use Rattle.std.specs.shelf.Lists.{All}
 use Rattle.std.proofs.shelf.Elements.{all-append, all-push, all-weaker}
-use Rattle.std.proofs.shelf.Tests.{eqb-true, eqb-false, eq-eqb, ne-eqb, leb-true, leb-false, and-parts, and-from, and-cases, cond-true, cond-false, cases-lt, cases-eq, both-ways, or-left, or-right}
+use Rattle.std.proofs.shelf.Tests.{eqb-true, eqb-false, eq-eqb, ne-eqb, and-parts, and-from, and-cases, cond-true, cond-false, cases-lt, cases-eq, both-ways, or-left, or-right}
 use Rattle.history.specs.Shown.{sibling}
 use Rattle.history.specs.Events.{Write, has-dot, among, outside, highest, the, down, newest}
 use Rattle.dvvset.specs.Limits.{columns, most-siblings}
-use Rattle.dvvset.specs.Clock.{ColumnState, first, merge-column, discard-column, push}
+use Rattle.dvvset.specs.Clock.{ColumnState, merge-column, discard-column, push}
 use Rattle.dvvset.specs.Listing.{dotted}
 use Rattle.dvvset.proofs.Lists.{take-min}
 use Rattle.dvvset.proofs.Merging.{merge-left, merge-right, first-first}

@@ -2,7 +2,6 @@
 use mathlib.Core.Path.{_≡_, refl, sym, ap, _∙_, subst}
 use mathlib.Core.List.{List, [], _∷_, _++_}
 use mathlib.Core.Bool.{Bool, true, false, cond}
-use mathlib.Core.Logic.{⊎-elim}
 use Prim.Native.Nat.{ℕ, max, _+_, _*_, _≤_, _<_}
 use native.Mathlib.Omega.{arith}
 use lib.Dec.{eqb, ltb}
@@ -14,7 +13,7 @@ use Rattle.std.proofs.shelf.Tests.{eqb-true, eqb-false, eq-eqb, ne-eqb, ltb-fal
 use Rattle.dvvset.specs.Limits.{columns, last-counter}
 use Rattle.history.specs.Events.{Write, Event, Events, writes, covered, highest}
 use Rattle.history.specs.Calls.{Context, blind, seen-at, Call, next-life, set-at, set-key}
-use Rattle.history.specs.Machine.{Gift, no-gift, context-of, frame-of, World, own, learn, with-owed, hand-out, keep, wake, tick, Step, context-in, context-for, frame-in, join, step, next as next-world, start}
+use Rattle.history.specs.Machine.{Gift, no-gift, context-of, frame-of, World, own, learn, with-owed, hand-out, keep, wake, tick, context-in, context-for, frame-in, join, step, next as next-world, start}
 use Rattle.history.specs.Refines.{Within}
 use Rattle.history.proofs.Sets.{writes-subset}
 use Rattle.history.proofs.Columns.{Full, next, full-next, sound-old, highest-other, highest-own}

@@ -1,19 +1,18 @@
 -- The clocks take each step that the machine takes. Assumes nothing.
 use mathlib.Core.Path.{_≡_, refl, sym, ap, ap₂, _∙_, fun-ext}
-use mathlib.Core.List.{List, [], _∷_, _++_, map}
+use mathlib.Core.List.{List}
 use mathlib.Core.Bool.{Bool, true, false, cond, _&&_}
-use Prim.Native.Nat.{ℕ, _+_, _*_, _<_}
+use Prim.Native.Nat.{ℕ, _+_, _<_}
 use native.Mathlib.Omega.{arith}
 use lib.ListN.{length}
 use lib.Dec.{eqb, leb, ltb}
 use Rattle.std.specs.declared.option.Option.{Option}
 use Rattle.std.specs.declared.option.Option.the-variants.{Some, None}
-use Rattle.std.proofs.shelf.Tests.{and-parts, ltb-true, cond-true}
+use Rattle.std.proofs.shelf.Tests.{and-parts, ltb-true}
 use Rattle.refusals.specs.declared.Refusal.the-variants.{TooManySiblings, CounterExhausted, MediumFull}
-use Rattle.dvvset.specs.Limits.{columns, most-siblings, last-counter, owned}
-use Rattle.dvvset.specs.Clock.{State, Outcome, refused, accepted, context, merge, discard, put as clock-put}
-use Rattle.dvvset.specs.Listing.{siblings}
-use Rattle.formats.specs.Frames.{frame, context-frame}
+use Rattle.dvvset.specs.Limits.{columns, most-siblings, last-counter}
+use Rattle.dvvset.specs.Clock.{refused, accepted, put as clock-put}
+use Rattle.formats.specs.Frames.{context-frame}
 use Rattle.history.specs.Events.{Write, Events, writes, outside, held, highest, newest, tops}
 use Rattle.history.specs.Calls.{Context, blind, seen-at, Call, get, put, delete, send, deliver, save, restart, Answer, wrote, got, sent, done, live, mute, refused-by, misnamed, named, next-life, spendable, spend, set-at, set-key}
 use Rattle.history.specs.Shown.{shown, listing, frame-bytes}

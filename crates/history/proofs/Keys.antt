@@ -6,10 +6,10 @@ use mathlib.Core.Logic.{⊎-elim}
 use Prim.Native.Nat.{ℕ, min, max, _+_, _-_, _≤_, _<_}
 use native.Mathlib.Omega.{arith}
 use lib.Dec.{eqb}
-use lib.ListN.{length, getD, set, length-take, length-map}
+use lib.ListN.{length, set, length-take}
 use Rattle.std.specs.declared.option.Option.{Option}
 use Rattle.std.specs.declared.option.Option.the-variants.{Some, None}
-use Rattle.std.specs.shelf.Lists.{joined, All, Has}
+use Rattle.std.specs.shelf.Lists.{All, Has}
 use Rattle.std.proofs.shelf.Lists.{take-map, getD-past}
 use Rattle.std.proofs.shelf.Counted.{length-map-counting}
 use Rattle.std.proofs.shelf.Tests.{eqb-false, eq-eqb, ne-eqb, cond-true, cond-false, cases-eq, cases-lt}
@@ -18,7 +18,7 @@ use Rattle.dvvset.specs.declared.writes.Dot.{Dot}
 use Rattle.dvvset.specs.Limits.{columns, most-siblings, last-counter}
 use Rattle.dvvset.specs.Clock.{ColumnState, Legal, State, LegalState, Outcome, refused, accepted, no-writes, column-at, merge-column, discard-column, push, context, merge, discard, put as clock-put}
 use Rattle.dvvset.specs.Listing.{dotted, siblings}
-use Rattle.history.specs.Events.{Write, Events, as-list, writes, covered, outside, held, highest, down, newest, each-column, in-order, tops}
+use Rattle.history.specs.Events.{Write, Events, as-list, writes, covered, outside, held, highest, down, newest, each-column, tops}
 use Rattle.history.specs.Shown.{shown-column, shown, sibling, listing}
 use Rattle.history.specs.Machine.{join}
 use Rattle.history.proofs.Sets.{writes-++, covered-++, highest-++, length-down, writes-subset, covered-subset}

@@ -3,7 +3,7 @@ use mathlib.Core.Path.{_≡_, refl, sym, ap, ap₂, _∙_, subst}
 use mathlib.Core.List.{List, [], _∷_, _++_}
 use mathlib.Core.Bool.{Bool, true, false, cond, _&&_}
 use mathlib.Core.Logic.{⊎-elim}
-use Prim.Native.Nat.{ℕ, zero, suc, _+_, _-_, _≤_, _<_}
+use Prim.Native.Nat.{ℕ, suc, _+_, _-_, _≤_, _<_}
 use native.Mathlib.Omega.{arith}
 use lib.Dec.{eqb, leb}
 use lib.ListN.{length, getD}
@@ -12,10 +12,10 @@ use Rattle.std.proofs.shelf.Tests.{eq-eqb, ne-eqb, cond-true, cond-false, cases
 use Rattle.refusals.specs.declared.Refusal.the-variants.{MediumFull}
 use Rattle.formats.specs.Frames.{frame}
 use Rattle.history.specs.Events.{Events}
-use Rattle.history.specs.Calls.{Receipt, Call, save, Answer, got, sent, done, refused-by, misnamed, named, spendable, spend}
+use Rattle.history.specs.Calls.{Receipt, Call, save, Answer, sent, done, refused-by, misnamed, named, spendable, spend}
 use Rattle.history.specs.Shown.{shown, frame-bytes}
 use Rattle.history.specs.Machine.{Gift, no-gift, context-of, frame-of, World, with-owed, keep, Step, to, step, next, after, answers, start}
-use Rattle.history.specs.Clocks.{ClockStep, clock-tick, clock-step, clock-after, clock-answers, clock-start}
+use Rattle.history.specs.Clocks.{ClockStep, clock-tick, clock-after, clock-answers, clock-start}
 use Rattle.history.specs.Refines.{Within, was-sent, NothingForgotten, Refines}
 use Rattle.history.proofs.Cases.{Ways, by-step}
 use Rattle.history.proofs.Good.{set-key-same, set-key-all, within-all, Good, good-start, good-step}

@@ -1,11 +1,11 @@
 -- What a good world is worth. Assumes nothing.
-use mathlib.Core.Path.{_≡_, sym, ap₂, subst}
+use mathlib.Core.Path.{_≡_, ap₂, subst}
 use mathlib.Core.List.{List, [], _∷_}
-use Prim.Native.Nat.{ℕ, _+_, _*_, _≤_, _<_}
+use Prim.Native.Nat.{ℕ, _+_, _*_}
 use native.Mathlib.Omega.{arith}
-use Rattle.std.specs.shelf.Lists.{All, Has}
+use Rattle.std.specs.shelf.Lists.{Has}
 use Rattle.std.proofs.shelf.Elements.{all-has}
-use Rattle.history.specs.Events.{Write, Event, Events, writes, highest, the}
+use Rattle.history.specs.Events.{Write, Event, Events, writes, the}
 use Rattle.history.specs.Machine.{World, own}
 use Rattle.history.specs.Refines.{InPlay, is-known, is-kept, was-seen, was-sent, Sane}
 use Rattle.history.proofs.Columns.{Named}

@@ -5,33 +5,29 @@ use mathlib.Core.Bool.{Bool, true, false, not, cond, _&&_}
 use mathlib.Core.Logic.{⊎-elim}
 use Prim.Native.Nat.{ℕ, zero, suc, max, _+_, _-_, _≤_, _<_}
 use native.Mathlib.Omega.{arith}
-use native.Mathlib.Numerals.{add-one}
 use native.Mathlib.Nat.{zero-add}
 use lib.Dec.{eqb, ltb}
 use lib.ListN.{length, take}
-use Rattle.std.specs.declared.option.Option.{Option}
 use Rattle.std.specs.declared.option.Option.the-variants.{Some, None}
 use Rattle.std.specs.Iters.{counting}
 use Rattle.std.specs.shelf.Lists.{All, Has, joined, kept-by}
 use Rattle.std.proofs.shelf.Elements.{all-weaker, all-has, all-has-itself, all-append, has-append-left, has-append-right, has-push}
-use Rattle.std.proofs.shelf.Tests.{eqb-true, eq-eqb, ne-eqb, lt-ltb, ltb-true, and-parts, and-from, not-from-false, cond-true, cond-false, cases-eq}
-use Rattle.refusals.specs.declared.Refusal.the-variants.{TooManySiblings, CounterExhausted}
+use Rattle.std.proofs.shelf.Tests.{eq-eqb, ne-eqb, lt-ltb, and-from, not-from-false, cond-true, cond-false, cases-eq}
 use Rattle.dvvset.specs.declared.writes.Dot.{Dot}
-use Rattle.dvvset.specs.declared.writes.Sibling.{Sibling}
-use Rattle.dvvset.specs.Limits.{columns, most-siblings, last-counter}
-use Rattle.history.specs.Events.{Write, Events, writes, covered, among, outside, held, highest, the, down, newest, each-column, in-order}
-use Rattle.history.specs.Calls.{Context, blind, seen-at, Call, get, put, send, deliver, Answer, wrote, got, sent, done, refused-by, misnamed, named, set-at, set-key}
-use Rattle.history.specs.Shown.{shown, sibling, listing, frame-bytes, context-bytes}
-use Rattle.history.specs.Machine.{Gift, context-of, frame-of, World, own, learn, hand-out, tick, Step, to, context-in, context-for, frame-in, with-set, join, put-at, step, next, after, start}
-use Rattle.history.specs.Refines.{Within, SameMembers, is-known}
+use Rattle.dvvset.specs.Limits.{columns, last-counter}
+use Rattle.history.specs.Events.{Write, Events, writes, covered, among, held, highest, down, newest, each-column, in-order}
+use Rattle.history.specs.Calls.{Context, seen-at, Call, get, put, send, deliver, wrote, done, named}
+use Rattle.history.specs.Shown.{shown, sibling, listing}
+use Rattle.history.specs.Machine.{context-of, frame-of, World, own, learn, hand-out, tick, Step, to, context-in, context-for, frame-in, with-set, join, put-at, step, next, after, start}
+use Rattle.history.specs.Refines.{Within, is-known}
 use Rattle.history.specs.Sanity.{PutIsHeld, PutStandsAlone, exchange, ExchangeAgrees, LastCounterRefused}
 use Rattle.history.proofs.Sets.{none-above}
 use Rattle.history.proofs.Columns.{newest-held, full-next, down-next, next as next-write}
 use Rattle.history.proofs.Tables.{joined-same}
-use Rattle.history.proofs.Keys.{SoundSet, writes-join, covered-join, sound-put, top-own, top-other, floor-put}
+use Rattle.history.proofs.Keys.{SoundSet, writes-join, sound-put, top-own, top-other, floor-put}
 use Rattle.history.proofs.Listed.{listed-held, has-here}
 use Rattle.history.proofs.Cases.{new-dot, new-write, put-world, Puttable, by-put}
-use Rattle.history.proofs.Good.{set-key-same, set-key-other, Good, Inv, good-start, context-fits}
+use Rattle.history.proofs.Good.{set-key-same, set-key-other, Good, good-start, context-fits}
 use Rattle.history.proofs.Sane.{sane}
 use Rattle.history.proofs.Runs.{after-append, after-push, calls-after, good-after}
 

@@ -8,7 +8,7 @@ use Rattle.std.specs.declared.option.Option.{Option}
 use Rattle.std.specs.declared.option.Option.the-variants.{Some, None}
 use Rattle.refusals.specs.declared.Refusal.the-variants.{TooManySiblings, CounterExhausted, MediumFull}
 use Rattle.dvvset.specs.Limits.{most-siblings, last-counter}
-use Rattle.history.specs.Events.{Write, Event, Events, writes, outside, held, highest, newest}
+use Rattle.history.specs.Events.{Write, Events, writes, outside, held, highest, newest}
 use Rattle.history.specs.Calls.{Context, blind, seen-at, Call, get, put, delete, send, deliver, save, restart, Answer, wrote, got, sent, done, live, mute, refused-by, misnamed, named, next-life, spendable, spend, set-at, set-key}
 use Rattle.history.specs.Shown.{listing, frame-bytes, context-bytes}
 

@@ -6,9 +6,9 @@ use lib.ListN.{getD}
 use Rattle.std.specs.shelf.Lists.{All, Has}
 use Rattle.dvvset.specs.Clock.{LegalState}
 use Rattle.history.specs.Events.{Write, Event, Events, writes, held, highest, in-order}
-use Rattle.history.specs.Calls.{Receipt, Call, save, Answer, sent, done, misnamed}
+use Rattle.history.specs.Calls.{Receipt, Call, save, sent, done, misnamed}
 use Rattle.history.specs.Shown.{shown, frame-bytes}
-use Rattle.history.specs.Machine.{Gift, context-of, frame-of, World, own, step, after, answers, start}
+use Rattle.history.specs.Machine.{context-of, frame-of, World, own, step, after, answers, start}
 use Rattle.history.specs.Clocks.{ClockWorld, clock-after, clock-answers, clock-start}
 
 -- each element of xs is one of ys

@@ -7,6 +7,7 @@ use Rattle.dvvset.specs.declared.writes.Dot.{Dot}
 use Rattle.dvvset.specs.declared.writes.Sibling.{Sibling}
 use Rattle.history.specs.Calls.{blind, seen-at, no-receipt, receipt-of, Call, get, put, delete, send, deliver, save, restart, Answer, wrote, got, sent, done, live, mute, refused-by, misnamed}
 use Rattle.history.specs.Machine.{answers, start}
+use Rattle.history.specs.Clocks.{clock-answers, clock-start}
 
 abbrev pub dot : ℕ → ℕ → Dot
 dot c n = record { column = c; counter = n }
@@ -168,6 +169,7 @@ misnamed-calls =
 abbrev pub scenarios : List (List Turn)
 scenarios = two-writers ∷ late-frame ∷ four-siblings ∷ deletes ∷ seen-elsewhere ∷ full-medium ∷ receipts ∷ last-life ∷ misnamed-calls ∷ []
 
--- The machine gives these answers; a value is one byte.
-abbrev pub Scenarios : Type 0
-Scenarios = map (λ turns. answers (λ v. v ∷ []) start (map (λ t. t .asked) turns)) scenarios ≡ map (λ turns. map (λ t. t .answered) turns) scenarios
+-- The machine gives these answers, and so do the clocks; a value is one byte.
+pub record Scenarios : Type 0 where
+  pub by-machine : map (λ turns. answers (λ v. v ∷ []) start (map (λ t. t .asked) turns)) scenarios ≡ map (λ turns. map (λ t. t .answered) turns) scenarios
+  pub by-clocks : map (λ turns. clock-answers (λ v. v ∷ []) clock-start (map (λ t. t .asked) turns)) scenarios ≡ map (λ turns. map (λ t. t .answered) turns) scenarios
