@@ -34,6 +34,18 @@ pub set-key-all : {A : Type 0} (P : ℕ → ℕ → A → Type 0) (f : ℕ → �
 set-key-all P f s k x here there =
     set-at-all (λ r y. (j : ℕ) → P r j (y j)) f s (set-at (f s) k x) (set-at-all (P s) (f s) k x here (λ j d. there s j)) (λ r d. there r)
 
+-- what holds of two tables that are set at the same place
+set-key-both : {A B : Type 0} (P : A → B → Type 0) (f : ℕ → ℕ → A) (g : ℕ → ℕ → B) (s k : ℕ) (x : A) (y : B) → P x y → ((r j : ℕ) → P (f r j) (g r j)) → (r j : ℕ) → P (set-key f s k x r j) (set-key g s k y r j)
+set-key-both P f g s k x y here there r j = go (eqb r s)
+  where
+    go : (a : Bool) → P (cond a (λ i. cond (eqb i k) x (f s i)) (f r) j) (cond a (λ i. cond (eqb i k) y (g s i)) (g r) j)
+    go true = inner (eqb j k)
+      where
+        inner : (b : Bool) → P (cond b x (f s j)) (cond b y (g s j))
+        inner true = here
+        inner false = there s j
+    go false = there r j
+
 pub set-key-same : {A : Type 0} (f : ℕ → ℕ → A) (s k : ℕ) (x : A) → set-key f s k x s k ≡ x
 set-key-same f s k x = ap (λ g. g k) (cond-true (eqb s s) (set-at (f s) k x) (f s) (eq-eqb s s refl)) ∙ cond-true (eqb k k) x (f s k) (eq-eqb k k refl)
 
@@ -85,6 +97,7 @@ module _ {V : Type 0} where
     pub mine : (s k : ℕ) → w .life s < 4 → highest (own w s) (writes (w .known s k)) ≡ highest (own w s) (H k)
     pub later : (s k l : ℕ) → w .life s < l → l < 4 → highest (4 * s + l) (H k) ≡ 0
     pub within : (s k : ℕ) → Within (w .kept s k) (w .known s k)
+    pub unsaved : (s k : ℕ) → w .saved s k ≡ false → w .kept s k ≡ []
 
   pub record GoodAt (n : ℕ) (w : World V) : Type 0 where
     pub all-writes : ℕ → List (Write V)
@@ -110,6 +123,7 @@ module _ {V : Type 0} where
               mine = λ s k l. refl;
               later = λ s k l m n. refl;
               within = λ s k. tt;
+              unsaved = λ s k e. refl;
             };
       }
     where
@@ -131,6 +145,7 @@ module _ {V : Type 0} where
           mine = inv .mine;
           later = inv .later;
           within = inv .within;
+          unsaved = inv .unsaved;
         }
       where
         fits : (k : ℕ) (K : Events V) → Fit (H k) E n K → Fit (H k) E′ n′ K
@@ -149,7 +164,7 @@ module _ {V : Type 0} where
         record {
           all-writes = H;
           all-events = E;
-          inv = record { count = omega arith; full = more .full; bounded = more .bounded; knows = more .knows; keeps = more .keeps; gave = more .gave; mine = more .mine; later = more .later; within = more .within };
+          inv = record { count = omega arith; full = more .full; bounded = more .bounded; knows = more .knows; keeps = more .keeps; gave = more .gave; mine = more .mine; later = more .later; within = more .within; unsaved = more .unsaved };
         }
 
   -- ---- what becomes of a world
@@ -161,7 +176,7 @@ module _ {V : Type 0} where
   module _ (H : ℕ → List (Write V)) (E : ℕ → Event V) (n : ℕ) (w : World V) (inv : Inv H E n w) where
     inv-owed : (f : ℕ → ℕ → Option ℕ) → Inv H E n (with-owed w f)
     inv-owed f =
-        record { count = inv .count; full = inv .full; bounded = inv .bounded; knows = inv .knows; keeps = inv .keeps; gave = inv .gave; mine = inv .mine; later = inv .later; within = inv .within }
+        record { count = inv .count; full = inv .full; bounded = inv .bounded; knows = inv .knows; keeps = inv .keeps; gave = inv .gave; mine = inv .mine; later = inv .later; within = inv .within; unsaved = inv .unsaved }
 
     inv-hand-out : (g : Gift V) → FitGift H E n g → Inv H E n (hand-out w g)
     inv-hand-out g h =
@@ -175,6 +190,7 @@ module _ {V : Type 0} where
           mine = inv .mine;
           later = inv .later;
           within = inv .within;
+          unsaved = inv .unsaved;
         }
 
     inv-keep : (s k : ℕ) → Inv H E n (keep w s k)
@@ -189,6 +205,7 @@ module _ {V : Type 0} where
           mine = inv .mine;
           later = inv .later;
           within = set-key-all (λ r j K. Within K (w .known r j)) (w .kept) s k (w .known s k) (all-has-itself (w .known s k)) (inv .within);
+          unsaved = set-key-both (λ b K. b ≡ false → K ≡ []) (w .saved) (w .kept) s k true (w .known s k) (λ e. let z : _≡_ {A = ℕ} 0 1 = cc in absurd (omega arith)) (inv .unsaved);
         }
 
     -- a seat learns, and writes nothing
@@ -205,6 +222,7 @@ module _ {V : Type 0} where
               (λ l. omega (arith, inv .mine s k l, writes-subset (own w s) (w .known s k) X more, h .sound .within (own w s))) (inv .mine);
           later = inv .later;
           within = set-key-all (λ r j K. Within (w .kept r j) K) (w .known) s k X (within-all (w .kept s k) (w .known s k) X (inv .within s k) more) (inv .within);
+          unsaved = inv .unsaved;
         }
 
     inv-wake : (s : ℕ) → Inv H E n (wake w s)
@@ -219,6 +237,7 @@ module _ {V : Type 0} where
           mine = λ r k. again r k (eqb r s) refl;
           later = λ r k. set-at-all (λ r x. (l : ℕ) → x < l → l < 4 → highest (4 * r + l) (H k) ≡ 0) (w .life) s (next-life (w .life s)) (λ l m n. inv .later s k l (next-above l m) n) (λ r d. inv .later r k) r;
           within = set-at-all (λ r x. (k : ℕ) → Within (w .kept r k) (x k)) (w .known) s (w .kept s) (λ k. all-has-itself (w .kept s k)) (λ r d. inv .within r);
+          unsaved = inv .unsaved;
         }
       where
         unwritten : (k : ℕ) → next-life (w .life s) < 4 → highest (4 * s + next-life (w .life s)) (H k) ≡ 0
@@ -276,6 +295,7 @@ module _ {V : Type 0} where
                 (λ r d j l. inv .mine r j l ∙ sym (elsewhere (own w r) j (λ e. d (omega arith))));
             later = λ r j l m n. elsewhere (4 * r + l) j (not-later r l m n) ∙ inv .later r j l m n;
             within = set-key-all (λ r j K. Within (w .kept r j) K) (w .known) s k X (within-all (w .kept s k) (w .known s k) X (inv .within s k) more) (inv .within);
+            unsaved = inv .unsaved;
           }
         where
           bounded-here : (c : ℕ) → highest c (next o v (H k) ∷ H k) ≤ last-counter

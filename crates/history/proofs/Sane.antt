@@ -1,15 +1,24 @@
 -- What a good world is worth. Assumes nothing.
-use mathlib.Core.Path.{_≡_, ap₂, subst}
+use mathlib.Core.Path.{_≡_, refl, ap, ap₂, _∙_, subst}
 use mathlib.Core.List.{List, [], _∷_}
-use Prim.Native.Nat.{ℕ, _+_, _*_}
+use mathlib.Core.Bool.{Bool, true, false, cond}
+use Prim.Native.Nat.{ℕ, _+_, _*_, _≤_, _<_}
 use native.Mathlib.Omega.{arith}
+use lib.Dec.{ltb}
+use lib.ListN.{getD}
 use Rattle.std.specs.shelf.Lists.{Has}
 use Rattle.std.proofs.shelf.Elements.{all-has}
-use Rattle.history.specs.Events.{Write, Event, Events, writes, the}
+use Rattle.std.proofs.shelf.Tests.{ltb-false}
+use Rattle.dvvset.specs.Limits.{columns}
+use Rattle.dvvset.specs.Clock.{column-at}
+use Rattle.history.specs.Events.{Write, Event, Events, writes, highest, the, tops}
+use Rattle.history.specs.Calls.{next-life}
+use Rattle.history.specs.Shown.{shown}
 use Rattle.history.specs.Machine.{World, own}
 use Rattle.history.specs.Refines.{InPlay, is-known, is-kept, was-seen, was-sent, Sane}
 use Rattle.history.proofs.Columns.{Named}
-use Rattle.history.proofs.Keys.{same-members, legal-shown}
+use Rattle.history.proofs.Tables.{at-column}
+use Rattle.history.proofs.Keys.{shown-at, same-members, legal-shown}
 use Rattle.history.proofs.Listed.{listed-held}
 use Rattle.history.proofs.Good.{Own, Fit, FitGift, Inv, Good}
 
@@ -40,8 +49,36 @@ module _ {V : Type 0} (H : ℕ → List (Write V)) (E : ℕ → Event V) (n : �
         own-top = λ s k K alive p. omega (arith, inv .mine s k alive, fit-in-play k K p .sound .within (own w s));
         unwritten = λ s l k K after under p. omega (arith, inv .later s k l after under, fit-in-play k K p .sound .within (4 * s + l));
         kept-known = inv .within;
+        unsaved = inv .unsaved;
         legal = λ k K p. legal-shown (H k) (inv .full k) K (fit-in-play k K p .sound) (inv .bounded k);
       }
 
 pub sane : {V : Type 0} (w : World V) → Good w → Sane w
 sane w good = sane-in (good .all-writes) (good .all-events) (w .calls) w (good .inv)
+
+-- ---- the same of states: why no frame, context or waking is refused for its own column
+
+module _ {V : Type 0} (w : World V) (good : Good w) (s k : ℕ) (seat : s < 6) where
+  -- the top of the seat's column in the life l
+  abbrev pub top-in : ℕ → Events V → ℕ
+  top-in l K = column-at (shown K) (4 * s + l) .top
+
+  top-is : (l : ℕ) (K : Events V) → l < 4 → top-in l K ≡ highest (4 * s + l) (writes K)
+  top-is l K h = ap (λ a. a .top) (shown-at K (4 * s + l) (omega (arith, h)))
+
+  module _ (alive : w .life s < 4) (K : Events V) (p : InPlay w k K) where
+    pub frame-allowed : top-in (w .life s) K ≤ top-in (w .life s) (w .known s k)
+    frame-allowed = omega (arith, top-is (w .life s) K alive, top-is (w .life s) (w .known s k) alive, sane w good .own-top s k K alive p)
+
+    pub context-allowed : getD (tops K) (own w s) 0 ≤ top-in (w .life s) (w .known s k)
+    context-allowed =
+        let inside : own w s < columns = omega arith in
+        omega (arith, at-column (λ c. highest c (writes K)) (own w s) 0 inside, top-is (w .life s) (w .known s k) alive, sane w good .own-top s k K alive p)
+
+  -- what was saved has nothing in the column of the next life
+  pub waking-allowed : next-life (w .life s) < 4 → top-in (next-life (w .life s)) (w .kept s k) ≡ 0
+  waking-allowed = go (ltb (w .life s) 4) refl
+    where
+      go : (b : Bool) → ltb (w .life s) 4 ≡ b → cond b (w .life s + 1) (w .life s) < 4 → top-in (cond b (w .life s + 1) (w .life s)) (w .kept s k) ≡ 0
+      go true e l = top-is (w .life s + 1) (w .kept s k) l ∙ sane w good .unwritten s (w .life s + 1) k (w .kept s k) (omega arith) l (is-kept s refl)
+      go false e l = absurd (omega (arith, ltb-false (w .life s) 4 e))

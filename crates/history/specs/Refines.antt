@@ -1,6 +1,7 @@
 -- The theorem: whatever list of calls is made, dotted version vector sets answer as the plain machine does, and are what it shows. Assumes nothing.
 use mathlib.Core.Path.{_≡_}
-use mathlib.Core.List.{List, _∷_, _++_}
+use mathlib.Core.List.{List, [], _∷_, _++_}
+use mathlib.Core.Bool.{false}
 use Prim.Native.Nat.{ℕ, _+_, _*_, _≤_, _<_}
 use lib.ListN.{getD}
 use Rattle.std.specs.shelf.Lists.{All, Has}
@@ -41,6 +42,8 @@ pub record Sane {V : Type 0} (w : World V) : Type 0 where
   pub unwritten : (s l k : ℕ) (K : Events V) → w .life s < l → l < 4 → InPlay w k K → highest (4 * s + l) (writes K) ≡ 0
   -- what is saved is known
   pub kept-known : (s k : ℕ) → Within (w .kept s k) (w .known s k)
+  -- and nothing is, before an accepted save
+  pub unsaved : (s k : ℕ) → w .saved s k ≡ false → w .kept s k ≡ []
   -- at most four values to a column, and no counter above 999,999
   pub legal : (k : ℕ) (K : Events V) → InPlay w k K → LegalState (shown K)
 
