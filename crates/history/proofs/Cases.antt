@@ -15,20 +15,9 @@ use Rattle.dvvset.specs.Limits.{most-siblings, last-counter}
 use Rattle.history.specs.Events.{Write, Events, writes, outside, held, highest, newest}
 use Rattle.history.specs.Calls.{Context, Receipt, Call, get, put, delete, send, deliver, save, restart, Answer, wrote, got, sent, done, refused-by, misnamed, named, spendable, spend, set-key}
 use Rattle.history.specs.Shown.{listing, frame-bytes, context-bytes}
-use Rattle.history.specs.Machine.{context-of, frame-of, World, own, learn, with-owed, hand-out, keep, wake, Step, to, context-for, frame-in, with-set, join, step}
+use Rattle.history.specs.Machine.{context-of, frame-of, World, own, learn, with-owed, hand-out, keep, wake, Step, to, context-for, frame-in, with-set, join, new-dot, put-world, step}
 
 module _ {V : Type 0} where
-  -- the write that a put makes, and its dot
-  abbrev pub new-dot : World V → ℕ → ℕ → Dot
-  new-dot w s k = record { column = own w s; counter = highest (own w s) (writes (w .known s k)) + 1 }
-
-  abbrev pub new-write : World V → ℕ → ℕ → V → Write V
-  new-write w s k v = record { column = own w s; counter = highest (own w s) (writes (w .known s k)) + 1; value = v }
-
-  -- the world after an accepted put
-  abbrev pub put-world : World V → ℕ → ℕ → Events V → V → World V
-  put-world w s k C v = with-owed (learn w s k (join (w .calls) (w .known s k) C (Some (new-write w s k v)))) (set-key (w .owed) s k (Some (w .calls)))
-
   -- what an accepted put has found
   pub record Puttable (w : World V) (s k : ℕ) (C : Events V) : Type 0 where
     pub place : named s k ≡ true

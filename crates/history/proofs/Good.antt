@@ -9,16 +9,16 @@ use Rattle.std.specs.declared.option.Option.{Option}
 use Rattle.std.specs.declared.option.Option.the-variants.{Some, None}
 use Rattle.std.specs.shelf.Lists.{All, Has}
 use Rattle.std.proofs.shelf.Elements.{all-weaker, all-has, all-has-itself, all-append, has-append-left}
-use Rattle.std.proofs.shelf.Tests.{eqb-true, eqb-false, eq-eqb, ne-eqb, ltb-false, cond-true, cond-false}
+use Rattle.std.proofs.shelf.Tests.{eqb-true, eqb-false, eq-eqb, ne-eqb, ltb-true, ltb-false, cond-true, cond-false, cond-both}
 use Rattle.dvvset.specs.Limits.{columns, last-counter}
 use Rattle.history.specs.Events.{Write, Event, Events, writes, covered, highest}
 use Rattle.history.specs.Calls.{Context, blind, seen-at, Call, next-life, set-at, set-key}
-use Rattle.history.specs.Machine.{Gift, no-gift, context-of, frame-of, World, own, learn, with-owed, hand-out, keep, wake, tick, context-in, context-for, frame-in, join, step, next as next-world, start}
+use Rattle.history.specs.Machine.{Gift, no-gift, context-of, frame-of, World, own, learn, with-owed, hand-out, keep, wake, tick, context-in, context-for, frame-in, join, new-write, step, next as next-world, start}
 use Rattle.history.specs.Refines.{Within}
 use Rattle.history.proofs.Sets.{writes-subset}
 use Rattle.history.proofs.Columns.{Full, next, full-next, sound-old, highest-other, highest-own}
 use Rattle.history.proofs.Keys.{SoundSet, sound-nothing, sound-union, sound-delete, sound-put, top-own}
-use Rattle.history.proofs.Cases.{new-write, Puttable, Ways, by-step}
+use Rattle.history.proofs.Cases.{Puttable, Ways, by-step}
 
 -- ---- tables
 
@@ -98,6 +98,7 @@ module _ {V : Type 0} where
     pub later : (s k l : ℕ) → w .life s < l → l < 4 → highest (4 * s + l) (H k) ≡ 0
     pub within : (s k : ℕ) → Within (w .kept s k) (w .known s k)
     pub unsaved : (s k : ℕ) → w .saved s k ≡ false → w .kept s k ≡ []
+    pub last-life : (s : ℕ) → w .life s ≤ 4
 
   pub record GoodAt (n : ℕ) (w : World V) : Type 0 where
     pub all-writes : ℕ → List (Write V)
@@ -124,6 +125,7 @@ module _ {V : Type 0} where
               later = λ s k l m n. refl;
               within = λ s k. tt;
               unsaved = λ s k e. refl;
+              last-life = λ s. omega arith;
             };
       }
     where
@@ -146,6 +148,7 @@ module _ {V : Type 0} where
           later = inv .later;
           within = inv .within;
           unsaved = inv .unsaved;
+          last-life = inv .last-life;
         }
       where
         fits : (k : ℕ) (K : Events V) → Fit (H k) E n K → Fit (H k) E′ n′ K
@@ -164,7 +167,7 @@ module _ {V : Type 0} where
         record {
           all-writes = H;
           all-events = E;
-          inv = record { count = omega arith; full = more .full; bounded = more .bounded; knows = more .knows; keeps = more .keeps; gave = more .gave; mine = more .mine; later = more .later; within = more .within; unsaved = more .unsaved };
+          inv = record { count = omega arith; full = more .full; bounded = more .bounded; knows = more .knows; keeps = more .keeps; gave = more .gave; mine = more .mine; later = more .later; within = more .within; unsaved = more .unsaved; last-life = more .last-life };
         }
 
   -- ---- what becomes of a world
@@ -176,7 +179,7 @@ module _ {V : Type 0} where
   module _ (H : ℕ → List (Write V)) (E : ℕ → Event V) (n : ℕ) (w : World V) (inv : Inv H E n w) where
     inv-owed : (f : ℕ → ℕ → Option ℕ) → Inv H E n (with-owed w f)
     inv-owed f =
-        record { count = inv .count; full = inv .full; bounded = inv .bounded; knows = inv .knows; keeps = inv .keeps; gave = inv .gave; mine = inv .mine; later = inv .later; within = inv .within; unsaved = inv .unsaved }
+        record { count = inv .count; full = inv .full; bounded = inv .bounded; knows = inv .knows; keeps = inv .keeps; gave = inv .gave; mine = inv .mine; later = inv .later; within = inv .within; unsaved = inv .unsaved; last-life = inv .last-life }
 
     inv-hand-out : (g : Gift V) → FitGift H E n g → Inv H E n (hand-out w g)
     inv-hand-out g h =
@@ -191,6 +194,7 @@ module _ {V : Type 0} where
           later = inv .later;
           within = inv .within;
           unsaved = inv .unsaved;
+          last-life = inv .last-life;
         }
 
     inv-keep : (s k : ℕ) → Inv H E n (keep w s k)
@@ -206,6 +210,7 @@ module _ {V : Type 0} where
           later = inv .later;
           within = set-key-all (λ r j K. Within K (w .known r j)) (w .kept) s k (w .known s k) (all-has-itself (w .known s k)) (inv .within);
           unsaved = set-key-both (λ b K. b ≡ false → K ≡ []) (w .saved) (w .kept) s k true (w .known s k) (λ e. let z : _≡_ {A = ℕ} 0 1 = cc in absurd (omega arith)) (inv .unsaved);
+          last-life = inv .last-life;
         }
 
     -- a seat learns, and writes nothing
@@ -223,6 +228,7 @@ module _ {V : Type 0} where
           later = inv .later;
           within = set-key-all (λ r j K. Within (w .kept r j) K) (w .known) s k X (within-all (w .kept s k) (w .known s k) X (inv .within s k) more) (inv .within);
           unsaved = inv .unsaved;
+          last-life = inv .last-life;
         }
 
     inv-wake : (s : ℕ) → Inv H E n (wake w s)
@@ -238,6 +244,7 @@ module _ {V : Type 0} where
           later = λ r k. set-at-all (λ r x. (l : ℕ) → x < l → l < 4 → highest (4 * r + l) (H k) ≡ 0) (w .life) s (next-life (w .life s)) (λ l m n. inv .later s k l (next-above l m) n) (λ r d. inv .later r k) r;
           within = set-at-all (λ r x. (k : ℕ) → Within (w .kept r k) (x k)) (w .known) s (w .kept s) (λ k. all-has-itself (w .kept s k)) (λ r d. inv .within r);
           unsaved = inv .unsaved;
+          last-life = set-at-all (λ r x. x ≤ 4) (w .life) s (next-life (w .life s)) (next-most (w .life s) (inv .last-life s)) (λ r d. inv .last-life r);
         }
       where
         unwritten : (k : ℕ) → next-life (w .life s) < 4 → highest (4 * s + next-life (w .life s)) (H k) ≡ 0
@@ -252,6 +259,9 @@ module _ {V : Type 0} where
             subst (λ m. highest (4 * m + next-life (w .life s)) (writes (w .kept s k)) ≡ highest (4 * m + next-life (w .life s)) (H k)) (sym (eqb-true r s e))
             (omega (arith, unwritten k l, inv .keeps s k .sound .within (4 * s + next-life (w .life s))))
         again r k false e l = inv .mine r k l
+
+        next-most : (n : ℕ) → n ≤ 4 → next-life n ≤ 4
+        next-most n h = cond-both (ltb n 4) (n + 1) n (λ x. x ≤ 4) (λ e. omega (arith, ltb-true n 4 e)) (λ e. h)
 
         next-above : (l : ℕ) → next-life (w .life s) < l → w .life s < l
         next-above l = go (ltb (w .life s) 4)
@@ -296,6 +306,7 @@ module _ {V : Type 0} where
             later = λ r j l m n. elsewhere (4 * r + l) j (not-later r l m n) ∙ inv .later r j l m n;
             within = set-key-all (λ r j K. Within (w .kept r j) K) (w .known) s k X (within-all (w .kept s k) (w .known s k) X (inv .within s k) more) (inv .within);
             unsaved = inv .unsaved;
+            last-life = inv .last-life;
           }
         where
           bounded-here : (c : ℕ) → highest c (next o v (H k) ∷ H k) ≤ last-counter

@@ -17,11 +17,10 @@ use Rattle.history.specs.Events.{Write, Events, writes, outside, held, highest
 use Rattle.history.specs.Calls.{Context, blind, seen-at, Call, get, put, delete, send, deliver, save, restart, Answer, wrote, got, sent, done, live, mute, refused-by, misnamed, named, next-life, spendable, spend, set-at, set-key}
 use Rattle.history.specs.Shown.{shown, listing, frame-bytes}
 use Rattle.history.specs.Machine as machine
-use Rattle.history.specs.Machine.{Gift, World, own, learn, hand-out, keep, wake, Step, to, context-in, context-for, frame-in, with-set, join, put-at, step}
+use Rattle.history.specs.Machine.{Gift, World, own, learn, hand-out, keep, wake, Step, to, context-in, context-for, frame-in, with-set, join, put-at, new-write, put-world, step}
 use Rattle.history.specs.Clocks as clocks
 use Rattle.history.specs.Clocks.{ClockGift, ClockWorld, ClockStep, clock-to, clock-learn, clock-with-owed, clock-hand-out, clock-keep, clock-wake, clock-context-in, clock-context-for, clock-frame-in, with-named, settle, clock-step}
 use Rattle.history.proofs.Keys.{SoundSet, context-is, siblings-is, deliver-is, delete-is, put-is}
-use Rattle.history.proofs.Cases.{new-write, put-world}
 use Rattle.history.proofs.Good.{Good, context-fits, frame-fits}
 
 cond-map : {A B : Type 0} (f : A → B) (b : Bool) (x y : A) → f (cond b x y) ≡ cond b (f x) (f y)

@@ -50,6 +50,7 @@ module _ {V : Type 0} (H : ℕ → List (Write V)) (E : ℕ → Event V) (n : �
         unwritten = λ s l k K after under p. omega (arith, inv .later s k l after under, fit-in-play k K p .sound .within (4 * s + l));
         kept-known = inv .within;
         unsaved = inv .unsaved;
+        last-life = inv .last-life;
         legal = λ k K p. legal-shown (H k) (inv .full k) K (fit-in-play k K p .sound) (inv .bounded k);
       }
 

@@ -18,7 +18,7 @@ use Rattle.dvvset.specs.Limits.{columns, last-counter}
 use Rattle.history.specs.Events.{Write, Events, writes, covered, among, held, highest, down, newest, each-column, in-order}
 use Rattle.history.specs.Calls.{Context, seen-at, Call, get, put, send, deliver, wrote, done, named}
 use Rattle.history.specs.Shown.{shown, sibling, listing}
-use Rattle.history.specs.Machine.{context-of, frame-of, World, own, learn, hand-out, tick, Step, to, context-in, context-for, frame-in, with-set, join, put-at, step, next, after, start}
+use Rattle.history.specs.Machine.{context-of, frame-of, World, own, learn, hand-out, tick, Step, to, context-in, context-for, frame-in, with-set, join, put-at, new-dot, new-write, put-world, step, next, after, start}
 use Rattle.history.specs.Refines.{Within, is-known}
 use Rattle.history.specs.Sanity.{PutIsHeld, PutStandsAlone, exchange, ExchangeAgrees, LastCounterRefused}
 use Rattle.history.proofs.Sets.{none-above}
@@ -26,7 +26,7 @@ use Rattle.history.proofs.Columns.{newest-held, full-next, down-next, next as 
 use Rattle.history.proofs.Tables.{joined-same}
 use Rattle.history.proofs.Keys.{SoundSet, writes-join, sound-put, top-own, top-other, floor-put}
 use Rattle.history.proofs.Listed.{listed-held, has-here}
-use Rattle.history.proofs.Cases.{new-dot, new-write, put-world, Puttable, by-put}
+use Rattle.history.proofs.Cases.{Puttable, by-put}
 use Rattle.history.proofs.Good.{set-key-same, set-key-other, Good, good-start, context-fits}
 use Rattle.history.proofs.Sane.{sane}
 use Rattle.history.proofs.Runs.{after-append, after-push, calls-after, good-after}

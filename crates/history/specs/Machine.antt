@@ -7,6 +7,7 @@ use lib.ListN.{length}
 use Rattle.std.specs.declared.option.Option.{Option}
 use Rattle.std.specs.declared.option.Option.the-variants.{Some, None}
 use Rattle.refusals.specs.declared.Refusal.the-variants.{TooManySiblings, CounterExhausted, MediumFull}
+use Rattle.dvvset.specs.declared.writes.Dot.{Dot}
 use Rattle.dvvset.specs.Limits.{most-siblings, last-counter}
 use Rattle.history.specs.Events.{Write, Events, writes, outside, held, highest, newest}
 use Rattle.history.specs.Calls.{Context, blind, seen-at, Call, get, put, delete, send, deliver, save, restart, Answer, wrote, got, sent, done, live, mute, refused-by, misnamed, named, next-life, spendable, spend, set-at, set-key}
@@ -115,15 +116,23 @@ with-set w (Some C) f = f C
 abbrev pub join : {V : Type 0} → ℕ → Events V → Events V → Option (Write V) → Events V
 join n K C x = K ++ C ++ (record { made-at = n; write = x; covers = writes C } ∷ [])
 
--- refused at the last counter, and where four writes of the own column are known, uncovered and outside the context
+-- the write that a put makes, and its dot: in the own column, one above the highest known counter
+abbrev pub new-dot : {V : Type 0} → World V → ℕ → ℕ → Dot
+new-dot w s k = record { column = own w s; counter = highest (own w s) (writes (w .known s k)) + 1 }
+
+abbrev pub new-write : {V : Type 0} → World V → ℕ → ℕ → V → Write V
+new-write w s k v = record { column = own w s; counter = highest (own w s) (writes (w .known s k)) + 1; value = v }
+
+-- the world after an accepted put, which is owed a save
+abbrev pub put-world : {V : Type 0} → World V → ℕ → ℕ → Events V → V → World V
+put-world w s k C v = with-owed (learn w s k (join (w .calls) (w .known s k) C (Some (new-write w s k v)))) (set-key (w .owed) s k (Some (w .calls)))
+
+-- Refused at the last counter; otherwise where four writes of the own column are known, uncovered and outside the context.
 abbrev pub put-at : {V : Type 0} → World V → ℕ → ℕ → Events V → V → Step V
 put-at w s k C v =
-    let K = w .known s k in
-    let c = own w s in
-    let n = highest c (writes K) in
-    cond (eqb n last-counter) (to w (refused-by CounterExhausted))
-    (cond (eqb (length (newest c (outside (writes C) (held K)))) most-siblings) (to w (refused-by TooManySiblings))
-    (to (with-owed (learn w s k (join (w .calls) K C (Some (record { column = c; counter = n + 1; value = v })))) (set-key (w .owed) s k (Some (w .calls)))) (wrote (record { column = c; counter = n + 1 }))))
+    cond (eqb (highest (own w s) (writes (w .known s k))) last-counter) (to w (refused-by CounterExhausted))
+    (cond (eqb (length (newest (own w s) (outside (writes C) (held (w .known s k))))) most-siblings) (to w (refused-by TooManySiblings))
+    (to (put-world w s k C v) (wrote (new-dot w s k))))
 
 -- A refused or misnamed call changes nothing. `bytesOf` gives the bytes of a value.
 unfoldable pub step : {V : Type 0} → (V → List ℕ) → World V → Call V → Step V

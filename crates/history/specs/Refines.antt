@@ -44,6 +44,8 @@ pub record Sane {V : Type 0} (w : World V) : Type 0 where
   pub kept-known : (s k : ℕ) → Within (w .kept s k) (w .known s k)
   -- and nothing is, before an accepted save
   pub unsaved : (s k : ℕ) → w .saved s k ≡ false → w .kept s k ≡ []
+  -- no life after the fifth
+  pub last-life : (s : ℕ) → w .life s ≤ 4
   -- at most four values to a column, and no counter above 999,999
   pub legal : (k : ℕ) (K : Events V) → InPlay w k K → LegalState (shown K)
 
