@@ -17,9 +17,9 @@ use Rattle.history.specs.Events.{Write, Events, writes, outside, held, highest
 use Rattle.history.specs.Calls.{Context, blind, seen-at, Call, get, put, delete, send, deliver, save, restart, Answer, wrote, got, sent, done, live, mute, refused-by, misnamed, named, next-life, spendable, spend, set-at, set-key}
 use Rattle.history.specs.Shown.{shown, listing, frame-bytes}
 use Rattle.history.specs.Machine as machine
-use Rattle.history.specs.Machine.{Gift, World, own, learn, hand-out, keep, wake, Step, to, context-in, context-for, frame-in, with-set, join, put-at, new-write, put-world, step}
+use Rattle.history.specs.Machine.{Gift, World, own, learn, hand-out, keep, wake, Step, to, context-in, context-for, frame-in, with-set, join, put-at, new-write, put-world, step, start}
 use Rattle.history.specs.Clocks as clocks
-use Rattle.history.specs.Clocks.{ClockGift, ClockWorld, ClockStep, clock-to, clock-learn, clock-with-owed, clock-hand-out, clock-keep, clock-wake, clock-context-in, clock-context-for, clock-frame-in, with-named, settle, clock-step}
+use Rattle.history.specs.Clocks.{ClockGift, ClockWorld, ClockStep, clock-to, clock-learn, clock-with-owed, clock-hand-out, clock-keep, clock-wake, clock-context-in, clock-context-for, clock-frame-in, with-named, settle, clock-step, clock-start}
 use Rattle.history.proofs.Keys.{SoundSet, context-is, siblings-is, deliver-is, delete-is, put-is}
 use Rattle.history.proofs.Good.{Good, context-fits, frame-fits}
 
@@ -60,6 +60,10 @@ module _ {V : Type 0} where
 
   abbrev pub image-step : Step V → ClockStep V
   image-step r = record { world = image (r .world); answer = r .answer }
+
+  pub image-start : image start ≡ clock-start
+  unfolding shown
+  image-start = refl
 
   module _ (w : World V) where
     image-learn : (s k : ℕ) (X : Events V) → clock-learn (image w) s k (shown X) ≡ image (learn w s k X)

@@ -13,14 +13,14 @@ use Rattle.refusals.specs.declared.Refusal.the-variants.{MediumFull}
 use Rattle.formats.specs.Frames.{frame}
 use Rattle.history.specs.Events.{Events}
 use Rattle.history.specs.Calls.{Receipt, Call, save, Answer, sent, done, refused-by, misnamed, named, spendable, spend}
-use Rattle.history.specs.Shown.{shown, frame-bytes}
+use Rattle.history.specs.Shown.{frame-bytes}
 use Rattle.history.specs.Machine.{Gift, no-gift, context-of, frame-of, World, with-owed, keep, Step, to, step, next, after, answers, start}
 use Rattle.history.specs.Clocks.{ClockStep, clock-tick, clock-after, clock-answers, clock-start}
 use Rattle.history.specs.Refines.{Within, was-sent, NothingForgotten, Refines}
 use Rattle.history.proofs.Cases.{Ways, by-step}
 use Rattle.history.proofs.Good.{set-key-same, set-key-all, within-all, Good, good-start, good-step}
 use Rattle.history.proofs.Sane.{sane}
-use Rattle.history.proofs.Image.{image, image-of-step}
+use Rattle.history.proofs.Image.{image, image-start, image-of-step}
 
 module _ {V : Type 0} (bytesOf : V → List ℕ) where
   -- ---- a list and one more
@@ -41,10 +41,6 @@ module _ {V : Type 0} (bytesOf : V → List ℕ) where
   good-after w good (c ∷ cs) = good-after (next bytesOf w c) (good-step bytesOf w good c) cs
 
   -- ---- the clocks
-
-  pub image-start : image {V = V} start ≡ clock-start
-  unfolding shown
-  image-start = refl
 
   pub image-of-run : (w : World V) → Good w → (cs : List (Call V)) → (clock-after bytesOf (image w) cs ≡ image (after bytesOf w cs)) × (clock-answers bytesOf (image w) cs ≡ answers bytesOf w cs)
   image-of-run w good [] = (refl, refl)
@@ -206,9 +202,9 @@ refines V =
       refined = λ bytesOf calls.
           let good = good-after bytesOf start good-start calls in
           let run = image-of-run bytesOf start good-start calls in
-          let world : clock-after bytesOf clock-start calls ≡ image (after bytesOf start calls) = ap (λ D. clock-after bytesOf D calls) (sym (image-start bytesOf)) ∙ run .0 in
+          let world : clock-after bytesOf clock-start calls ≡ image (after bytesOf start calls) = ap (λ D. clock-after bytesOf D calls) (sym image-start) ∙ run .0 in
           record {
-            same-answers = ap (λ D. clock-answers bytesOf D calls) (sym (image-start bytesOf)) ∙ run .1;
+            same-answers = ap (λ D. clock-answers bytesOf D calls) (sym image-start) ∙ run .1;
             shows = record { lives = λ s. ap (λ D. D .life s) world; known = λ s k. ap (λ D. D .known s k) world; kept = λ s k. ap (λ D. D .kept s k) world };
             sane = sane (after bytesOf start calls) good;
             sent-bytes = sent-bytes bytesOf calls;
