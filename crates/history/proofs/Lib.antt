@@ -1,0 +1,11 @@
+pub mod Sets
+pub mod Columns
+pub mod Tables
+pub mod Keys
+pub mod Listed
+pub mod Cases
+pub mod Good
+pub mod Sane
+pub mod Image
+pub mod Runs
+pub mod Sanity
