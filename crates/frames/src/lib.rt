@@ -7,3 +7,4 @@ mod writing;
 pub use checking::check;
 pub use taking::load_frame;
 pub use taking::merge_frame;
+pub use writing::write_frame;

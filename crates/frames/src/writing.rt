@@ -8,9 +8,15 @@ ghost use lib.ListN.{drop, length, take};
 ghost use Rattle.std.specs.shelf.Lists.{All, joined};
 ghost use Rattle.values.specs.BigEndian.{to-bytes};
 ghost use Rattle.clock.specs.Memory.{column, count-of, state, top-of};
-ghost use Rattle.formats.specs.Frames.{column-field, frame-length, head-field};
+ghost use Rattle.std.specs.Vec.{made};
+ghost use Rattle.dvvset.specs.Clock.{after, answer};
+ghost use Rattle.formats.specs.Frames.{column-field, frame-length, head-field, rising-fields, unwritten};
+ghost use Rattle.formats.specs.OneFrame.{Fit};
+ghost use Rattle.frames.specs.Taking.{writing-frame};
 use clock::Column;
 use clock::Row;
+use clock::has_room;
+use refusals::Refusal;
 use values::Value;
 
 // How long the field of a column is: a column without a top has none.
@@ -104,4 +110,44 @@ fn write_field<V: Value>(c: u8, row: Row, cells: &[V], out: &mut [u8], at: usize
     let end = at + (9 + V::width() * count);
     write_column(c, a, &cells[0..count], &mut out[at..end]);
     end
+}
+
+// The columns, behind the head's four bytes.
+fn write_columns<V: Value>(rows: &[Row], cells: &[V], out: &mut [u8])
+    requires rows { ⌜ 24 ≤ length (now rows) ⌝ }
+    requires cells { ⌜ 96 ≤ length (now cells) ⌝ }
+    requires room { ⌜ frame-length (V·Value .width) (state (now rows) (now cells)) ≤ length (now out) ⌝ }
+    ensures out { λ _. ⌜ now (out .exit) ≡ (take 4 (now (out .entry)) ++ rising-fields unwritten (column-field (V·Value .bytesOf)) 0 (state (now (rows .entry)) (now (cells .entry)))) ++ drop (frame-length (V·Value .width) (state (now (rows .entry)) (now (cells .entry)))) (now (out .entry)) ⌝ }
+    ensures fit { λ _. ⌜ Fit (V·Value .valid) (state (now (rows .entry)) (now (cells .entry))) ⌝ }
+{
+    let mut at = 4;
+    for c in 0..24 {
+        at = write_field(c as u8, rows[c], &cells[4 * c..4 * c + 4], out, at);
+    }
+}
+
+// The frame of the key's state at the front of `out`; the answer is its length.
+pub fn write_frame<V: Value>(
+    key: u8,
+    rows: &[Row],
+    cells: &[V],
+    out: &mut [u8],
+) -> Result<usize, Refusal>
+    ensures answer { λ r. ⌜ r ≡ answer (writing-frame (V·Value .width) (V·Value .bytesOf) key (now (rows .entry)) (now (cells .entry)) (now (out .entry))) ⌝ }
+    ensures out { λ _. ⌜ now (out .exit) ≡ after (now (out .entry)) (writing-frame (V·Value .width) (V·Value .bytesOf) key (now (rows .entry)) (now (cells .entry)) (now (out .entry))) ⌝ }
+    ensures fit { λ r. ⌜ made r (λ _. Fit (V·Value .valid) (state (now (rows .entry)) (now (cells .entry)))) ⌝ }
+{
+    if key > 15 {
+        return Err(Refusal::NoSuchSeatOrKey);
+    }
+    if !has_room(rows, cells) {
+        return Err(Refusal::ShortMemory);
+    }
+    let size = frame_size::<V>(rows);
+    if out.len() < size {
+        return Err(Refusal::ShortMemory);
+    }
+    write_head(key, out);
+    write_columns(rows, cells, out);
+    Ok(size)
 }
