@@ -28,7 +28,7 @@ framed-rest at (t ∷ h ∷ l ∷ bs) f e =
     let len = length-take-le n bs le in
     rw (← ok-same (u .1)) (ap (λ k. drop k bs) (sym len) ∙ drop-drop (length (take n bs)) 3 (t ∷ h ∷ l ∷ bs), omega arith)
 
-tagged-rest : (due at : ℕ) (bs : List ℕ) (f : FieldBytes) → tagged due at bs ≡ Ok f → (f .rest ≡ drop (3 + length (f .body)) bs) × (3 + length (f .body) ≤ length bs)
+pub tagged-rest : (due at : ℕ) (bs : List ℕ) (f : FieldBytes) → tagged due at bs ≡ Ok f → (f .rest ≡ drop (3 + length (f .body)) bs) × (3 + length (f .body) ≤ length bs)
 tagged-rest due at bs f e =
     let u = then-ok (framed at bs) _ f e in
     let v = unless-ok (UnexpectedTag at) (eqb (u .0 .tag) due) _ f (u .2) in

@@ -1,9 +1,9 @@
 -- Lists that the kit's shelf lacks lemmas on. Assumes nothing.
 use mathlib.Core.Path.{_≡_, refl, sym, ap, _∙_}
 use mathlib.Core.List.{List, [], _∷_}
-use Prim.Native.Nat.{ℕ, zero, suc, min, _<_}
+use Prim.Native.Nat.{ℕ, zero, suc, min, _<_, _≤_}
 use native.Mathlib.Omega.{arith}
-use lib.ListN.{length, take, getD}
+use lib.ListN.{length, take, getD, set}
 use lib.Seq.{take-nil}
 use Rattle.std.proofs.shelf.Lists.{ext-getD}
 
@@ -29,3 +29,11 @@ module _ {A : Type 0} where
   -- whatever stands at i in both is equal: so what stands there is
   pub alike : (xs ys : List A) (i : ℕ) (d : A) → i < length xs → i < length ys → ((x y : A) → getD xs i x ≡ x → getD ys i y ≡ y → x ≡ y) → getD xs i d ≡ getD ys i d
   alike xs ys i d h k f = f (getD xs i d) (getD ys i d) (getD-any xs i _ d h) (getD-any ys i _ d k)
+
+-- a bound on every number stays where one below it is put in
+pub bounded-set : (m i v : ℕ) (xs : List ℕ) → v ≤ m → ((k : ℕ) → getD xs k 0 ≤ m) → (k : ℕ) → getD (set xs i v) k 0 ≤ m
+bounded-set m i v [] h low k = low k
+bounded-set m zero v (x ∷ xs) h low zero = h
+bounded-set m zero v (x ∷ xs) h low (suc k) = low (suc k)
+bounded-set m (suc i) v (x ∷ xs) h low zero = low 0
+bounded-set m (suc i) v (x ∷ xs) h low (suc k) = bounded-set m i v xs h (λ j. low (suc j)) k

@@ -1,0 +1,6 @@
+// Contexts as bytes: read from lent bytes, and written into lent memory.
+mod reading;
+mod seen_keys;
+
+pub use reading::read_context;
+pub use seen_keys::KeyedContext;
