@@ -6,3 +6,4 @@ pub mod Columns
 pub mod Tops
 pub mod Whole
 pub mod Theorem
+pub mod Laying

@@ -12,7 +12,8 @@ use Rattle.dvvset.specs.Clock.{column-at, no-writes}
 use Rattle.clock.specs.Memory.{state}
 use Rattle.clock.proofs.Whole.{length-state, read-column}
 use Rattle.formats.specs.Frames.{column-field, rising-fields, unwritten}
-use Rattle.frames.proofs.Writes.{all-fields, field-behind, next-fields, size-all, size-fits, size-more}
+use Rattle.formats.proofs.Laying.{field-behind}
+use Rattle.frames.proofs.Writes.{all-fields, next-fields, size-all, size-fits, size-more}
 use Rattle.frames.proofs.writing.write_columns.Needs as need
 
 pub write-field-at-requires : need.write-field-at-requires
