@@ -7,3 +7,4 @@ pub mod Tops
 pub mod Whole
 pub mod Theorem
 pub mod Laying
+pub mod Offsets
