@@ -7,14 +7,15 @@ use native.Mathlib.Omega.{arith}
 use native.Mathlib.Nat.{mul-le-mul-left, mul-suc}
 use lib.Dec.{eqb, leb, ltb}
 use lib.ListN.{length, take, drop, getD}
-use Rattle.std.proofs.shelf.Tests.{leb-true, eqb-true, and-parts}
+use Rattle.std.proofs.shelf.Tests.{leb-true, eqb-true, and-parts, cond-both}
 use Rattle.std.specs.declared.result.Result.{Result}
 use Rattle.std.specs.declared.result.Result.the-variants.{Ok, Err}
 use Rattle.refusals.specs.declared.Refusal.{Refusal}
 use Rattle.refusals.specs.declared.Refusal.the-variants.{Truncated, UnexpectedTag, WrongLength, OutOfRange, OutOfOrder}
 use Rattle.refusals.specs.Refusals.{offset}
 use Rattle.values.specs.BigEndian.{from-bytes}
-use Rattle.dvvset.specs.Clock.{ColumnState, State, no-writes}
+use Rattle.dvvset.specs.Clock.{ColumnState, LegalState, State, column-at, no-writes}
+use Rattle.formats.specs.Frames.{fields-length, frame-length, unwritten}
 use Rattle.formats.specs.Reading.{Field, Head, Keyed, Raw, Told, then, unless, framed, tagged, head, in-range, raw-column, column-of, column-told, in-front, rising, reading}
 use Rattle.formats.proofs.Steps.{ok-same, then-ok, unless-ok}
 
@@ -124,3 +125,15 @@ module _ {V : Type 0} (w : ℕ) (valueOf : List ℕ → V) where
       go : (r : Result (Keyed (State V)) Refusal) → r ≡ Err e → Near (4 + (9 + 4 * w) * 24) r → offset e ≤ 4 + 24 * (9 + 4 * w)
       go (Ok k) p h = absurd (let z : _≡_ {A = ℕ} 0 1 = cc in omega arith)
       go (Err x) p h = let q : x ≡ e = cc in omega (arith, ap offset q, h)
+
+-- ---- no frame is longer than the longest
+
+pub length-most : {V : Type 0} (w : ℕ) (S : State V) → LegalState S → frame-length w S ≤ 4 + 24 * (9 + 4 * w)
+length-most w S legal = omega (arith, go S (λ c. legal .each c .few), ap (λ n. (9 + 4 * w) * n) (legal .wide))
+  where
+    go : {V : Type 0} (S : State V) → ((c : ℕ) → length (column-at S c .values) ≤ 4) → fields-length w S ≤ (9 + 4 * w) * length S
+    go [] few = omega arith
+    go (a ∷ S) few =
+        let m = mul-le-mul-left {m = length (a .values)} {n = 4} w (few 0) in
+        let one : cond (unwritten a) 0 (9 + w * length (a .values)) ≤ 9 + 4 * w = cond-both (unwritten a) 0 (9 + w * length (a .values)) (λ n. n ≤ 9 + 4 * w) (λ e. omega arith) (λ e. omega arith) in
+        omega (arith, one, go S (λ c. few (suc c)), mul-suc (9 + 4 * w) (length S))
