@@ -6,9 +6,10 @@ use lib.ListN.{set}
 use Rattle.std.specs.declared.option.Option.{Option}
 use Rattle.std.specs.declared.option.Option.the-variants.{Some, None}
 use Rattle.std.specs.declared.result.Result.the-variants.{Ok, Err}
-use Rattle.refusals.specs.declared.Refusal.the-variants.{TooManySiblings, CounterExhausted}
+use Rattle.refusals.specs.declared.Refusal.the-variants.{TooManySiblings, CounterExhausted, OutOfRange}
 use Rattle.dvvset.specs.Limits.{owned}
 use Rattle.dvvset.specs.Clock.{ColumnState, State, answer, after, blank, no-context, column-at, merge-column, discard-column, put}
+use Rattle.formats.specs.Reading.{reading}
 
 -- a column with the top n and these values, newest first
 abbrev pub col : {V : Type 0} → ℕ → List V → ColumnState V
@@ -46,3 +47,6 @@ pub record Table {V : Type 0} (a b c p q r : V) : Type 0 where
   -- the column that seat 1 owns
   pub fourth-life : owned 1 3 ≡ Some 7
   pub mute : owned 1 4 ≡ None
+  -- frames, whatever a value's width: key 15 without writes, and a key that is none
+  pub no-writes-frame : (w : ℕ) (valueOf : List ℕ → V) → reading w valueOf (0x01 ∷ 0x00 ∷ 0x01 ∷ 0x0F ∷ []) ≡ Ok (record { key = 15; what = blank })
+  pub no-such-key : (w : ℕ) (valueOf : List ℕ → V) → reading w valueOf (0x01 ∷ 0x00 ∷ 0x01 ∷ 0x10 ∷ []) ≡ Err (OutOfRange 0)

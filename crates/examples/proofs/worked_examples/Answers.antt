@@ -1,9 +1,10 @@
 use mathlib.Core.Path.{refl}
 use Rattle.dvvset.specs.Clock.{merge-column, discard-column, discard, push, put}
+use Rattle.formats.specs.Reading.{reading, rising}
 use Rattle.examples.proofs.worked_examples.Needs as need
 
 pub returns : need.returns
-unfolding merge-column discard-column discard push put
+unfolding merge-column discard-column discard push put reading rising
 returns g _ = λ a b c p q r. record {
   blind-puts = refl;
   covering-put = refl;
@@ -18,4 +19,6 @@ returns g _ = λ a b c p q r. record {
   last-used = refl;
   fourth-life = refl;
   mute = refl;
+  no-writes-frame = λ w valueOf. refl;
+  no-such-key = λ w valueOf. refl;
 }
