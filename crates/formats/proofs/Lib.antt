@@ -4,3 +4,4 @@ pub mod Codes
 pub mod Columns
 pub mod Tops
 pub mod Whole
+pub mod Logs
