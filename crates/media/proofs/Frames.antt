@@ -28,6 +28,9 @@ pub record Bounds (key f left : ℕ) : Type 0 where
 pub bounds : (key f left : ℕ) → Ok tt ≡ admitted key f left → Bounds key f left
 bounds key f left e = record { low-key = grind (arith, tells); some = grind (arith, tells); few = grind (arith, tells); room = grind (arith, tells) }
 
+pub some-same : {A : Type 0} {a b : A} → Some a ≡ Some b → a ≡ b
+some-same e = cc
+
 -- ---- slots
 
 pub frames-get : (ss : List Slot) (k : ℕ) (d : Slot) → k < length ss → frames-of ss k ≡ frame-of (getD ss k d)
@@ -39,9 +42,6 @@ pub frames-past : (ss : List Slot) (k : ℕ) → length ss ≤ k → frames-of s
 frames-past [] k h = refl
 frames-past (s ∷ ss) zero h = absurd (omega arith)
 frames-past (s ∷ ss) (suc k) h = frames-past ss k (omega arith)
-
-pub none-some : {A : Type 0} {o : Option A} {a : A} → o ≡ None → o ≡ Some a → ⊥
-none-some e f = let z : _≡_ {A = ℕ} 0 1 = cc in omega arith
 
 set-here : (ss : List Slot) (k : ℕ) (s : Slot) → k < length ss → frames-of (set ss k s) k ≡ frame-of s
 set-here [] k s h = absurd (omega arith)

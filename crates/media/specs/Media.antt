@@ -6,6 +6,8 @@ use mathlib.Core.Logic.{_⊎_}
 use Prim.Native.Nat.{ℕ, _+_, _≤_}
 use lib.Dec.{eqb, ltb}
 use lib.ListN.{length, drop}
+use denote.Ref.{RefT}
+use Rattle.std.specs.Options.{mapped}
 use Rattle.std.specs.declared.option.Option.{Option}
 use Rattle.std.specs.declared.option.Option.the-variants.{Some, None}
 use Rattle.std.specs.declared.result.Result.{Result}
@@ -54,6 +56,10 @@ pub record Saved (newest : Frames) (left key : ℕ) (frame : List ℕ) (r : Resu
   pub falls : left ≡ left′ + taken
 
 -- ---- reading
+
+-- a frame that is lent, or none
+abbrev pub behind : Option (RefT (List ℕ)) → Option (List ℕ)
+behind lent = mapped (λ f. f .now) lent
 
 -- a frame that fits into so many bytes
 abbrev pub within-room : ℕ → Option (List ℕ) → Result (Option (List ℕ)) Refusal

@@ -2,6 +2,7 @@
 mod admission;
 mod medium;
 mod orders;
+mod reading;
 mod runs;
 mod slot;
 mod slots;
@@ -11,6 +12,8 @@ pub use admission::admit;
 pub use medium::Medium;
 pub use orders::Answer;
 pub use orders::Order;
+pub use reading::hand_over;
+pub use reading::is_newest;
 pub use runs::save_all;
 pub use slot::Slots;
 pub use slots::SlotsMedium;

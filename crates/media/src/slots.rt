@@ -1,28 +1,21 @@
 // The medium of plain slots: a save goes over the frame before it, and takes nothing from left.
 ghost use mathlib.Core.Path.{_≡_};
-ghost use Prim.Native.Nat.{ℕ, _≤_};
-ghost use mathlib.Core.List.{_++_};
-ghost use lib.ListN.{length, drop};
-ghost use Rattle.std.specs.Orderings.{Decides};
+ghost use Prim.Native.Nat.{_≤_};
+ghost use lib.ListN.{length};
 ghost use Rattle.std.specs.declared.option.Option.the-variants.{None, Some};
-ghost use Rattle.media.specs.Media.{Fresh, handed, laid, told, within-room};
+ghost use Rattle.media.specs.Media.{Fresh, behind};
 ghost use Rattle.media.specs.Slots.{frame-of, frames-of, slots-left};
 use crate::admission::admit;
 use crate::medium::Medium;
+use crate::reading::hand_over;
+use crate::reading::is_newest;
+use crate::reading::lay;
 use crate::slot::Slot;
 use crate::slot::Slots;
 use refusals::Refusal;
 
 // Enough for a frame of any length.
 const ROOM: usize = 1760;
-
-// Copies the bytes to the front of `out`.
-fn lay(bytes: &[u8], out: &mut [u8])
-    requires { ⌜ length (now bytes) ≤ length (now out) ⌝ }
-    ensures { λ _. ⌜ now (out .exit) ≡ now (bytes .entry) ++ drop (length (now (bytes .entry))) (now (out .entry)) ⌝ }
-{
-    (&mut out[0..bytes.len()]).copy_from_slice(bytes);
-}
 
 impl Slot {
     fn empty() -> Slot
@@ -48,26 +41,13 @@ impl Slot {
         }
     }
 
-    fn holds(&self, frame: &[u8]) -> bool
-        ensures { λ r. ⌜ Decides r (frame-of (now (self .entry)) ≡ Some (now (frame .entry))) ⌝ }
+    fn frame(&self) -> Option<&[u8]>
+        ensures { λ r. ⌜ behind r ≡ frame-of (now (self .entry)) ⌝ }
     {
-        self.size > 0 && &self.bytes[0..self.size] == frame
-    }
-
-    // The frame goes to the front of `out`.
-    fn read(&self, out: &mut [u8]) -> Result<Option<usize>, Refusal>
-        ensures answer { λ r. ⌜ r ≡ told (within-room (length (now (out .entry))) (frame-of (now (self .entry)))) ⌝ }
-        ensures out { λ _. ⌜ now (out .exit) ≡ laid (within-room (length (now (out .entry))) (frame-of (now (self .entry)))) (now (out .entry)) ⌝ }
-    {
-        let n = self.size;
-        if n == 0 {
-            return Ok(None);
+        if self.size == 0 {
+            return None;
         }
-        if out.len() < n {
-            return Err(Refusal::ShortMemory);
-        }
-        lay(&self.bytes[0..n], out);
-        Ok(Some(n))
+        Some(&self.bytes[0..self.size])
     }
 }
 
@@ -79,6 +59,16 @@ impl Slots {
         Slots {
             slots: [Slot::empty(); 16],
         }
+    }
+
+    // The newest frame of a key.
+    fn newest(&self, key: u8) -> Option<&[u8]>
+        ensures { λ r. ⌜ behind r ≡ frames-of (now (self .entry) .slots) key ⌝ }
+    {
+        if key > 15 {
+            return None;
+        }
+        self.slots[key as usize].frame()
     }
 }
 
@@ -92,10 +82,7 @@ pub impl Medium for Slots as SlotsMedium {
     }
 
     fn holds(&self, key: u8, frame: &[u8]) -> bool {
-        if key > 15 {
-            return false;
-        }
-        self.slots[key as usize].holds(frame)
+        is_newest(self.newest(key), frame)
     }
 
     fn save(&mut self, key: u8, frame: &[u8]) -> Result<(), Refusal> {
@@ -105,9 +92,6 @@ pub impl Medium for Slots as SlotsMedium {
     }
 
     fn read(&self, key: u8, out: &mut [u8]) -> Result<Option<usize>, Refusal> {
-        if key > 15 {
-            return Err(Refusal::NoSuchSeatOrKey);
-        }
-        self.slots[key as usize].read(out)
+        hand_over(key, self.newest(key), out)
     }
 }
