@@ -1,9 +1,8 @@
 -- What the bytes of a journal mean, and what a save makes of them. Assumes nothing.
 use mathlib.Core.List.{List, [], _∷_, _++_}
 use Prim.Native.Nat.{ℕ, _+_, _-_}
-use lib.Dec.{eqb, leb}
+use lib.Dec.{eqb}
 use lib.ListN.{length, take, drop}
-use denote.Ref.{now}
 use Rattle.std.specs.Options.{mapped, orOther}
 use Rattle.std.specs.declared.option.Option.{Option}
 use Rattle.std.specs.declared.option.Option.the-variants.{Some, None}
@@ -12,7 +11,7 @@ use Rattle.std.specs.declared.result.Result.the-variants.{Ok, Err}
 use Rattle.refusals.specs.declared.Refusal.{Refusal}
 use Rattle.formats.specs.Reading.{then}
 use Rattle.formats.specs.Entries.{Entry, entry-field, used, opening}
-use Rattle.media.specs.Media.{Frames, behind}
+use Rattle.media.specs.Media.{Frames, admitted, behind}
 use Rattle.media.specs.Runs.{last-where}
 use Rattle.journal.specs.declared.entries.Walk.{Walk}
 
@@ -47,5 +46,16 @@ abbrev pub closed : List ℕ → List ℕ
 closed [] = []
 closed (b ∷ bs) = 0 ∷ bs
 
+-- the entry behind the others, which end at `end`
 abbrev pub appended : List ℕ → ℕ → Entry → List ℕ
-appended bs end e = take end bs ++ (entry-field e ++ closed (drop (end + length (entry-field e)) bs))
+appended bs end e = take end bs ++ (entry-field e ++ closed (drop (length (e .frame) + 4) (drop end bs)))
+
+-- the bytes after a save that was answered so
+abbrev pub after-saving : Result (Unit {0}) Refusal → List ℕ → ℕ → Entry → List ℕ
+after-saving (Ok u) bs end e = appended bs end e
+after-saving (Err x) bs end e = bs
+
+abbrev pub saving : List ℕ → ℕ → List ℕ → List ℕ
+saving bs key frame =
+    let left = left-of (length bs) (opening bs) in
+    after-saving (admitted key (length frame) left) bs (length bs - left) (record { key = key; frame = frame })
