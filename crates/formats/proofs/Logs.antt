@@ -172,24 +172,39 @@ all-written at (x ∷ es) rest g e =
     ∙ all-step at (entry-field x ++ tail) _ (entry-written at x tail (g .0))
     ∙ ap (in-front x) (all-written (at + (4 + length (x .frame))) es rest (g .1) e)
 
-was-all : (n at : ℕ) (bs : List ℕ) (es : List Entry) → length bs ≤ n → Bytes bs → entries-from n at bs ≡ Ok es → Holds bs es
+pub all-fit : (n at : ℕ) (bs : List ℕ) (es : List Entry) → entries-from n at bs ≡ Ok es → All Fit es
 unfolding entries-from
-was-all zero at [] es l b e = record { rest = []; is = ap (λ x. joined entry-field x ++ []) (ok-same e); ended = refl; fit = rw (← ok-same e) tt }
+all-fit zero at bs es e = rw (← ok-same e) tt
+all-fit (suc n) at bs es e = go (next-entry at bs) refl (all-fit n) e
+  where
+    go : (r : Result (Option EntryTold) Refusal) → next-entry at bs ≡ r → ((at : ℕ) (bs : List ℕ) (es : List Entry) → entries-from n at bs ≡ Ok es → All Fit es) → then r (onward (λ e. entries-from n (e .next) (e .rest))) ≡ Ok es → All Fit es
+    go (Err x) is more e = absurd (let z : _≡_ {A = ℕ} 0 1 = cc in omega arith)
+    go (Ok None) is more e = rw (← ok-same e) tt
+    go (Ok (Some t)) is more e = let u = then-ok (entries-from n (t .next) (t .rest)) _ es e in rw (← ok-same (u .2)) (cut at bs t is .fit, more (t .next) (t .rest) (u .0) (u .1))
+
+-- what the entries leave, and that it ends them
+record Rest (bs : List ℕ) (es : List Entry) : Type 0 where
+  rest : List ℕ
+  is : bs ≡ joined entry-field es ++ rest
+  ended : ends rest ≡ true
+
+was-all : (n at : ℕ) (bs : List ℕ) (es : List Entry) → length bs ≤ n → Bytes bs → entries-from n at bs ≡ Ok es → Rest bs es
+unfolding entries-from
+was-all zero at [] es l b e = rw (← ok-same e) (record { rest = []; is = refl; ended = refl })
 was-all zero at (x ∷ bs) es l b e = absurd (omega arith)
 was-all (suc n) at bs es l b e = go (next-entry at bs) refl (was-all n) e
   where
-    go : (r : Result (Option EntryTold) Refusal) → next-entry at bs ≡ r → ((at : ℕ) (bs : List ℕ) (es : List Entry) → length bs ≤ n → Bytes bs → entries-from n at bs ≡ Ok es → Holds bs es) → then r (onward (λ e. entries-from n (e .next) (e .rest))) ≡ Ok es → Holds bs es
+    go : (r : Result (Option EntryTold) Refusal) → next-entry at bs ≡ r → ((at : ℕ) (bs : List ℕ) (es : List Entry) → length bs ≤ n → Bytes bs → entries-from n at bs ≡ Ok es → Rest bs es) → then r (onward (λ e. entries-from n (e .next) (e .rest))) ≡ Ok es → Rest bs es
     go (Err x) is more e = absurd (let z : _≡_ {A = ℕ} 0 1 = cc in omega arith)
-    go (Ok None) is more e = rw (← ok-same e) (record { rest = bs; is = refl; ended = none-ended at bs is; fit = tt })
+    go (Ok None) is more e = rw (← ok-same e) (record { rest = bs; is = refl; ended = none-ended at bs is })
     go (Ok (Some t)) is more e =
-        let c = cut at bs t is in
         let w = was-written at bs t b is in
         let u = then-ok (entries-from n (t .next) (t .rest)) _ es e in
-        let h = more (t .next) (t .rest) (u .0) (omega (arith, c .long)) (w .1) (u .1) in
-        rw (← ok-same (u .2)) (record { rest = h .rest; is = w .0 ∙ ap (λ r. entry-field (t .entry) ++ r) (h .is) ∙ sym (append-assoc (entry-field (t .entry)) (joined entry-field (u .0)) (h .rest)); ended = h .ended; fit = (c .fit, h .fit) })
+        let h = more (t .next) (t .rest) (u .0) (omega (arith, cut at bs t is .long)) (w .1) (u .1) in
+        rw (← ok-same (u .2)) (record { rest = h .rest; is = w .0 ∙ ap (λ r. entry-field (t .entry) ++ r) (h .is) ∙ sym (append-assoc (entry-field (t .entry)) (joined entry-field (u .0)) (h .rest)); ended = h .ended })
 
 pub held : (bs : List ℕ) (es : List Entry) → Bytes bs → entries bs ≡ Ok es → Holds bs es
-held bs es b e = was-all (length bs) 0 bs es (omega arith) b e
+held bs es b e = let r = was-all (length bs) 0 bs es (omega arith) b e in record { rest = r .rest; is = r .is; ended = r .ended; fit = all-fit (length bs) 0 bs es e }
 
 pub holding : (bs : List ℕ) (es : List Entry) → Holds bs es → entries bs ≡ Ok es
 holding bs es h = ap (all-from 0) (h .is) ∙ all-written 0 es (h .rest) (h .fit) (h .ended)

@@ -8,14 +8,17 @@ use native.Mathlib.Omega.{arith}
 use lib.Dec.{eqb}
 use lib.ListN.{length, getD, set, take, drop}
 use Rattle.std.proofs.shelf.Lists.{drop-all, length-drop, take-all, length-take-le, take-more, take-more-set}
-use Rattle.std.proofs.shelf.Tests.{cases-lt}
+use Rattle.std.proofs.shelf.Tests.{and-parts, cases-lt, false≢true}
+use Rattle.std.specs.shelf.Lists.{All}
 use Rattle.std.specs.Options.{mapped, orOther}
 use Rattle.std.specs.declared.option.Option.{Option}
 use Rattle.std.specs.declared.option.Option.the-variants.{Some, None}
 use Rattle.media.specs.declared.orders.Order.{Order}
 use Rattle.media.specs.declared.orders.Answer.{Answer}
-use Rattle.media.specs.Media.{Frames}
-use Rattle.media.specs.Runs.{Tried, tried, tried-all, took, all-took, is-accepted, last-where, last-accepted, Answered, All-answered, Ran, Done}
+use Rattle.media.specs.declared.orders.Answer.the-variants.{Accepted, Refused}
+use Rattle.media.specs.Media.{Frames, admitted}
+use Rattle.media.specs.Runs.{Tried, tried, tried-all, took, all-took, is-accepted, reply, last-where, last-accepted, Answered, All-answered, Ran, Done}
+use Rattle.media.proofs.Frames.{bounds}
 
 -- ---- a part that stops at the end
 
@@ -96,3 +99,39 @@ ran-more {newest} {newest′} {newest″} {left} {left′} {left″} {ts} {t} r 
           ∙ ap (λ o. orOther (mapped (λ t. t .frame) o) (newest k)) (sym (last-push (counts k) ts t));
       falls = omega (arith, r .falls, d .falls, took-push ts t);
     }
+
+-- ---- what was accepted is not short
+
+pub last-found : {A : Type 0} (test : A → Bool) (Q : A → Type 0) (xs : List A) → All (λ y. test y ≡ true → Q y) xs → (x : A) → last-where test xs ≡ Some x → Q x
+last-found test Q [] g x e = absurd (let z : _≡_ {A = ℕ} 0 1 = cc in omega arith)
+last-found {A} test Q (y ∷ ys) g x e = go (last-where test ys) refl (test y) refl e (last-found test Q ys (g .1))
+  where
+    go : (o : Option A) → last-where test ys ≡ o → (b : Bool) → test y ≡ b → orOther o (cond b (Some y) None) ≡ Some x → ((x : A) → last-where test ys ≡ Some x → Q x) → Q x
+    go (Some z) is b t e more = more x (is ∙ e)
+    go None is true t e more = let same : y ≡ x = cc in subst Q same (g .0 t)
+    go None is false t e more = absurd (let z : _≡_ {A = ℕ} 0 1 = cc in omega arith)
+
+accepted-some : (left : ℕ) (t : Tried) → Answered left t → is-accepted (t .answer) ≡ true → 4 ≤ length (t .frame)
+accepted-some left t a was = go (t .answer) was (a .0)
+  where
+    go : (x : Answer) → is-accepted x ≡ true → reply x ≡ admitted (t .key) (length (t .frame)) left → 4 ≤ length (t .frame)
+    go (Accepted n) y e = bounds (t .key) (length (t .frame)) left e .some
+    go (Refused r) y e = absurd (false≢true y)
+
+all-some : (k left : ℕ) (ts : List Tried) → All-answered left ts → All (λ t. counts k t ≡ true → 4 ≤ length (t .frame)) ts
+all-some k left [] a = tt
+all-some k left (t ∷ ts) a = (λ c. accepted-some left t (a .0) (and-parts (eqb k (t .key)) (is-accepted (t .answer)) c .1), all-some k (left - took (t .answer)) ts (a .1))
+
+pub mapped-found : {A B : Type 0} (f : A → B) (Q : B → Type 0) (o : Option A) → ((x : A) → o ≡ Some x → Q (f x)) → (y : B) → mapped f o ≡ Some y → Q y
+mapped-found f Q None h y e = absurd (let z : _≡_ {A = ℕ} 0 1 = cc in omega arith)
+mapped-found f Q (Some x) h y e = let same : f x ≡ y = cc in subst Q same (h x refl)
+
+-- after a run, a frame that is not short is none that stood before, or not short either
+pub ran-some : {newest newest′ : Frames} {left left′ : ℕ} {ts : List Tried} → Ran newest left ts newest′ left′ → (k : ℕ) → ((f : List ℕ) → newest k ≡ Some f → 4 ≤ length f) → (f : List ℕ) → newest′ k ≡ Some f → 4 ≤ length f
+ran-some {newest} {newest′} {left} {left′} {ts} r k before f e = go (last-accepted k ts) refl (sym (r .frames k) ∙ e)
+  where
+    go : (o : Option (List ℕ)) → last-accepted k ts ≡ o → orOther o (newest k) ≡ Some f → 4 ≤ length f
+    go None is e = before f e
+    go (Some g) is e =
+        let Q : List ℕ → Type 0 = λ f. 4 ≤ length f in
+        mapped-found (λ t. t .frame) Q (last-where (counts k) ts) (last-found (counts k) (λ t. 4 ≤ length (t .frame)) ts (all-some k left ts (r .answered))) f (is ∙ e)
