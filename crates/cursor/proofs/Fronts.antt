@@ -16,7 +16,7 @@ use Rattle.values.specs.BigEndian.{from-bytes}
 use Rattle.values.proofs.BigEndian.{number-at, from-bytes-at}
 use Rattle.formats.specs.Reading.{Raw, unless, framed, tagged, in-range, raw-column}
 use Rattle.formats.proofs.Steps.{then-goes, unless-goes}
-use Rattle.cursor.specs.Seen.{Shown, cut-at}
+use Rattle.cursor.specs.Seen.{cut-at}
 
 pub framed-long : (due at n : ℕ) (bs : List ℕ) → n ≡ getD bs 1 0 * 256 + getD bs 2 0 → 3 + n ≤ length bs → getD bs 0 0 ≡ due → tagged due at bs ≡ Ok (cut-at bs due n)
 framed-long due at n [] e l t = absurd (omega arith)
@@ -85,5 +85,5 @@ module _ (w at n : ℕ) (bs : List ℕ) (long : 3 + n ≤ length bs) (six : 6 �
         (let p = col-is in let q = count-is in let r = top-is in let s = values-are in let l = length-body in cc)))
 
 -- what is left of the bytes, as a loan of it has it
-pub from-here : (f : List ℕ → Result Shown Refusal) (bs : List ℕ) (at : ℕ) (r : Result Shown Refusal) → r ≡ f (take (length bs - at) (drop at bs)) → r ≡ f (drop at bs)
+pub from-here : {A : Type 0} (f : List ℕ → A) (bs : List ℕ) (at : ℕ) (r : A) → r ≡ f (take (length bs - at) (drop at bs)) → r ≡ f (drop at bs)
 from-here f bs at r e = e ∙ ap f (take-rest bs at)

@@ -1,4 +1,4 @@
-// One field of a frame or context: what it says, its bytes, and the offset of its tag.
+// One field of a frame, context or list of entries: what it says, its bytes, and the offset of its tag.
 #[derive(Clone, Copy)]
 pub enum Field<'a> {
     // key (1)
@@ -20,6 +20,12 @@ pub enum Field<'a> {
         column: u8,
         top: u32,
         bytes: &'a [u8],
+        at: usize,
+    },
+    // key (1), frame
+    Entry {
+        key: u8,
+        frame: &'a [u8],
         at: usize,
     },
 }

@@ -4,7 +4,7 @@ ghost use Prim.Native.Nat.{_+_, _^_, _≤_, _<_};
 ghost use lib.Dec.{eqb};
 ghost use lib.ListN.{length, drop};
 ghost use Rattle.formats.specs.Reading.{in-range};
-ghost use Rattle.cursor.specs.Seen.{Framed, column-seen, head-seen, seen, shown, span as spanOf, spanned, top-seen};
+ghost use Rattle.cursor.specs.Seen.{Framed, column-seen, entry-seen, head-seen, seen, seen-next, shown, span as spanOf, spanned, spanned-next, top-seen};
 use crate::cursors::Cursor;
 use crate::fields::Field;
 use refusals::Refusal;
@@ -112,6 +112,33 @@ fn top_at<'a>(rest: &'a [u8], at: usize) -> Result<Field<'a>, Refusal>
     }
 }
 
+// None where the entries end.
+fn entry_at<'a>(rest: &'a [u8], at: usize) -> Result<Option<Field<'a>>, Refusal>
+    ensures value { λ r. ⌜ seen-next r ≡ entry-seen at (now (rest .entry)) ⌝ }
+    ensures within { λ r. ⌜ spanned-next (seen-next r) ≤ length (now (rest .entry)) ⌝ }
+{
+    if rest.len() == 0 || rest[0] == 0 {
+        return Ok(None);
+    }
+    match framed(rest, 16, at) {
+        Err(e) => Err(e),
+        Ok(length) => {
+            if length < 5 || length > 1757 {
+                return Err(Refusal::WrongLength(at));
+            }
+            let key = rest[3];
+            if key > 15 {
+                return Err(Refusal::OutOfRange(at));
+            }
+            Ok(Some(Field::Entry {
+                key,
+                frame: &rest[4..3 + length],
+                at,
+            }))
+        }
+    }
+}
+
 impl<'a> Field<'a> {
     // How many bytes the field takes, with its tag and length.
     pub(crate) fn span(&self) -> usize
@@ -122,6 +149,7 @@ impl<'a> Field<'a> {
             Field::Head { bytes, .. } => 3 + bytes.len(),
             Field::Column { values, .. } => 9 + values.len(),
             Field::Top { bytes, .. } => 3 + bytes.len(),
+            Field::Entry { frame, .. } => 4 + frame.len(),
         }
     }
 }
@@ -207,6 +235,26 @@ impl<'a> Cursor<'a> {
                 self.at = at + field.span();
                 Ok(field)
             }
+        }
+    }
+
+    // The next entry, or none at a tag 00 or at the end of the bytes.
+    pub fn entry(&mut self) -> Result<Option<Field<'a>>, Refusal>
+        ensures value { λ r. ⌜ seen-next r ≡ entry-seen (now (self .entry) .at) (drop (now (self .entry) .at) (now (now (self .entry) .bytes))) ⌝ }
+        ensures moved { λ r. ⌜ now (self .exit) .at ≡ now (self .entry) .at + spanned-next (seen-next r) ⌝ }
+        ensures same { λ _. ⌜ now (now (self .exit) .bytes) ≡ now (now (self .entry) .bytes) ⌝ }
+    {
+        let at = self.at;
+        let bytes = self.bytes;
+        match entry_at(&bytes[at..], at) {
+            Err(e) => Err(e),
+            Ok(next) => match next {
+                None => Ok(None),
+                Some(field) => {
+                    self.at = at + field.span();
+                    Ok(Some(field))
+                }
+            },
         }
     }
 }

@@ -8,3 +8,4 @@ pub mod Whole
 pub mod Theorem
 pub mod Laying
 pub mod Offsets
+pub mod Logs

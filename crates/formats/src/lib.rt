@@ -1,4 +1,5 @@
-// What frames and contexts mean, byte by byte, and the theorem that each state has one frame and each accepted frame one state.
+// What frames, contexts and entries mean, byte by byte, and the theorems that each has one form in bytes and one reading.
+ghost use Rattle.formats.specs.Entries.{OneLog};
 ghost use Rattle.formats.specs.OneFrame.{OneContext, OneFrame};
 use values::Value;
 
@@ -10,4 +11,9 @@ pub fn one_frame<V: Value>()
 // For contexts.
 pub fn one_context()
     ensures { λ _. ⌜ OneContext ⌝ }
+{}
+
+// For entries, one after the other.
+pub fn one_log()
+    ensures { λ _. ⌜ OneLog ⌝ }
 {}

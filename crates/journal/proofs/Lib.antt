@@ -1,0 +1,4 @@
+pub mod Walks
+pub mod Appends
+pub mod Saves
+pub mod Reopens
