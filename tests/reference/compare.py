@@ -35,11 +35,12 @@ def tell(save, name, text, expected, found):
 def count(kinds, text):
     """How often each kind of answer comes."""
     for line in play(text).splitlines():
-        kind = re.search(r"refused \d+$|^line |: done$|: column \d+ counter \d+$|values?$", line)
+        kind = re.search(r"refused \d+$|^line |: done$|: column \d+ counter \d+$|values?$|bytes$", line)
         if kind and not line.startswith((" ", "#")):
             name = kind.group()
             name = "put" if name.startswith(": column") else name
             name = "get" if name.startswith("value") else name
+            name = "send" if name == "bytes" else name
             name = "bad line" if name == "line " else name
             name = "done" if name == ": done" else name
             kinds[name] = kinds.get(name, 0) + 1

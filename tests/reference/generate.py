@@ -1,21 +1,23 @@
 #!/usr/bin/env python3
-"""Writes a random scenario of some sixty calls, from a seed given as the argument."""
+"""Writes a random scenario of some seventy calls, from a seed given as the argument."""
 
 import random
 import sys
 
-CALLS = 60
+LINES = 75
 MEASURES = ["0", "-1", "+7", "250", "007", "2147483647", "-2147483648", "-0"]
 BAD_MEASURES = ["2147483648", "-2147483649", "1.5", "--1", "+", "-", "12a", "٣"]
 BAD_NUMBERS = ["-1", "x", "+", "1x", "18446744073709551616", "0x1", "1_0"]
 LABELS = ["A", "HDG", "with", "put", "#", "~!", "ABCDEFGHIJKL", "0"]
 BAD_LABELS = ["ABCDEFGHIJKLM", "é", "A\x7f", "A\x0bB", "\u00a0"]
 BAD_WORDS = ["Put", "fetch", "puts", "with", "é", "7", "\u2003"]
+# how many words a call has, without `with` and its number
+LENGTHS = {"put": 5, "delete": 3, "get": 3, "send": 3, "deliver": 4}
 BLANKS = [" ", " ", " ", "  ", "\t", " \t ", " \f"]
 
 
 class Scenario:
-    """A scenario in the making. It counts calls, and knows which were gets of which key."""
+    """A scenario in the making. It counts calls, and knows which gave a context or a frame of which key."""
 
     def __init__(self, seed):
         self.chance = random.Random(seed)
@@ -24,6 +26,7 @@ class Scenario:
         self.seen = self.chance.choice([30, 60, 90])
         self.calls = 0
         self.gets = []
+        self.sends = []
         self.lines = []
 
     def pick(self, items):
@@ -65,8 +68,19 @@ class Scenario:
     def get(self):
         return ["get", self.seat(), self.key()]
 
-    def exchange(self):
-        return ["exchange", self.seat(), self.seat(), self.key()]
+    def send(self):
+        return ["send", self.seat(), self.key()]
+
+    def deliver(self):
+        key = self.key()
+        fitting = [call for call, of in self.sends if of == key]
+        if self.odds(6):
+            others = [self.chance.randint(0, self.calls + 2)]
+            others += [call for call, of in self.gets[-1:]] + [call for call, of in self.sends if of != key][-1:]
+            return ["deliver", self.seat(), key, self.pick(others)]
+        if not fitting:
+            return ["send", self.seat(), key]
+        return ["deliver", self.seat(), key, fitting[-1] if self.odds(60) else self.pick(fitting)]
 
     def spoil(self, words):
         """One fault more in the words of a call."""
@@ -75,7 +89,7 @@ class Scenario:
         if way == 0:
             words[0] = self.pick(BAD_WORDS)
         elif way == 1:
-            del words[self.chance.randrange(1, len(words)) :]
+            del words[self.pick([at for at in range(1, len(words)) if at != LENGTHS[words[0]]]) :]
         elif way == 2:
             words.append(self.pick(["x", "with", "0"]))
         elif way == 3:
@@ -91,8 +105,9 @@ class Scenario:
     def write(self, words):
         """The words as a line, now and then with blanks in odd places."""
         texts = [str(word) for word in words]
-        if self.odds(5) and len(texts) > 1 and texts[1].isdigit():
-            texts[1] = self.pick(["+", "0", "+00"]) + texts[1]
+        at = self.chance.randrange(len(texts))
+        if self.odds(15) and texts[at].isdigit():
+            texts[at] = self.pick(["+", "0", "+00"]) + texts[at]
         line = texts[0]
         for text in texts[1:]:
             line += (self.pick(BLANKS) if self.odds(10) else " ") + text
@@ -104,21 +119,28 @@ class Scenario:
             line += "\r"
         self.lines.append(line)
 
+    def made(self, words):
+        """Whether the call that the words name, if any, is there."""
+        named = (words[-1], words[2])
+        if words[0] == "deliver":
+            return named in self.sends
+        return len(words) == LENGTHS[words[0]] or named in self.gets
+
     def call(self):
-        make = self.chance.choices([self.put, self.delete, self.get, self.exchange], [40, 8, 26, 26])[0]
-        words = make()
+        makers = [self.put, self.delete, self.get, self.send, self.deliver]
+        words = self.chance.choices(makers, [34, 7, 22, 15, 22])[0]()
         if self.odds(6):
             self.write(self.spoil(words))
             return
         self.write(words)
-        # near enough: a `with` that names no get makes the line no call
-        if len(words) < 5 or "with" not in words[3:] or words[-1] in [call for call, _ in self.gets]:
+        if self.made(words):
             self.calls += 1
-            if words[0] == "get":
-                self.gets.append((self.calls, words[2]))
+            if words[1] < 6 and words[2] < 16 and words[0] in ["get", "send"]:
+                given = self.gets if words[0] == "get" else self.sends
+                given.append((self.calls, words[2]))
 
     def text(self):
-        while len(self.lines) < CALLS:
+        while len(self.lines) < LINES:
             if self.odds(3):
                 self.lines.append(self.pick(["", "   ", "\t", "\r", "# a note", "#", "#  é  ", " # no note"]))
             self.call()

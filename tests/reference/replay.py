@@ -3,7 +3,9 @@
 
 Each seat has for each key the set of the events that it knows. An event is an
 accepted put or delete, and covers the writes that its context holds. What a seat
-holds of a key are the known writes that no known event covers.
+holds of a key are the known writes that no known event covers. A send gives the set,
+and a delivery adds it to the receiver's. Frames and contexts in bytes are made from
+the sets, to be printed, and are never read back.
 
 Reads a scenario from standard input and prints what each call answers.
 """
@@ -86,10 +88,46 @@ class Cockpit:
         self.check(seat, key)
         return self.known[seat, key]
 
-    def exchange(self, source, target, key):
-        self.check(source, key)
-        self.check(target, key)
-        self.known[target, key] = self.known[target, key] | self.known[source, key]
+    def send(self, seat, key):
+        self.check(seat, key)
+        return self.known[seat, key]
+
+    def deliver(self, seat, key, sent):
+        self.check(seat, key)
+        self.known[seat, key] = self.known[seat, key] | sent
+
+
+def field(tag, body):
+    return bytes([tag]) + len(body).to_bytes(2, "big") + body
+
+
+def setting(measure, label):
+    return measure.to_bytes(4, "big", signed=True) + label.encode("ascii").ljust(12, b"\0")
+
+
+def newest_first(known):
+    """The writes that are held, by rising column, the newest first in each."""
+    return sorted(held(known), key=lambda event: (event.dot[0], -event.dot[1]))
+
+
+def frame(key, known):
+    """The bytes of a state."""
+    fields = field(1, bytes([key]))
+    for column, top in sorted(tops(known).items()):
+        standing = [event for event in newest_first(known) if event.dot[0] == column]
+        # a frame does not tell the counters: those of the values go down from the top
+        assert [event.dot[1] for event in standing] == list(range(top, top - len(standing), -1))
+        values = b"".join(setting(*event.value) for event in standing)
+        fields += field(2, bytes([column, len(standing)]) + top.to_bytes(4, "big") + values)
+    return fields
+
+
+def context_frame(key, known):
+    """The bytes of a context."""
+    fields = field(3, bytes([key]))
+    for column, top in sorted(tops(known).items()):
+        fields += field(4, bytes([column]) + top.to_bytes(4, "big"))
+    return fields
 
 
 def number(part, word, low, high, sign):
@@ -142,13 +180,19 @@ class Replay:
         self.cockpit = Cockpit()
         self.calls = 0
         self.gets = {}
+        self.sends = {}
 
     def seen(self, call, key):
         if call is None:
             return frozenset()
-        if call not in self.gets or self.gets[call][0] != key:
+        if (call, key) not in self.gets:
             raise BadLine(f"call {call} is no earlier get of key {key}")
-        return self.gets[call][1]
+        return self.gets[call, key]
+
+    def sent(self, call, key):
+        if (call, key) not in self.sends:
+            raise BadLine(f"call {call} is no earlier send of key {key}")
+        return self.sends[call, key]
 
     def put(self, words):
         seat = words.number("seat")
@@ -186,28 +230,47 @@ class Replay:
 
         def run():
             known = self.cockpit.get(seat, key)
-            self.gets[self.calls] = (key, known)
-            return reading(known)
+            self.gets[self.calls, key] = known
+            return reading(key, known)
 
         return f"get {seat} {key}", run
 
-    def exchange(self, words):
-        source = words.number("sending seat")
-        target = words.number("receiving seat")
+    def send(self, words):
+        seat = words.number("seat")
         key = words.number("key")
         words.end()
 
         def run():
-            self.cockpit.exchange(source, target, key)
+            known = self.cockpit.send(seat, key)
+            self.sends[self.calls, key] = known
+            return "\n    ".join(dump(frame(key, known)))
+
+        return f"send {seat} {key}", run
+
+    def deliver(self, words):
+        seat = words.number("seat")
+        key = words.number("key")
+        call = words.number("call number")
+        words.end()
+        sent = self.sent(call, key)
+
+        def run():
+            self.cockpit.deliver(seat, key, sent)
             return "done"
 
-        return f"exchange {source} {target} {key}", run
+        return f"deliver {seat} {key} {call}", run
 
     def play(self, line):
         words = Words(line)
         if not words.rest:
             return None
-        readers = {"put": self.put, "delete": self.delete, "get": self.get, "exchange": self.exchange}
+        readers = {
+            "put": self.put,
+            "delete": self.delete,
+            "get": self.get,
+            "send": self.send,
+            "deliver": self.deliver,
+        }
         name = words.rest.pop(0)
         if name not in readers:
             raise BadLine(f"no such call: {name}")
@@ -224,17 +287,22 @@ def with_words(call):
     return "" if call is None else f" with {call}"
 
 
-def reading(known):
-    siblings = sorted(held(known), key=lambda event: (event.dot[0], -event.dot[1]))
+def dump(data):
+    """How many bytes, then the bytes, sixteen to a line."""
+    rows = [data[at : at + 16] for at in range(0, len(data), 16)]
+    return [f"{len(data)} bytes"] + [row.hex(" ").upper() for row in rows]
+
+
+def reading(key, known):
+    siblings = newest_first(known)
     counts = {0: "no values", 1: "1 value"}
     lines = [counts.get(len(siblings), f"{len(siblings)} values")]
     for event in siblings:
         column, counter = event.dot
         measure, label = event.value
         lines.append(f"column {column} counter {counter}: {measure} {label}")
-    pairs = [f"{column}:{top}" for column, top in sorted(tops(known).items())]
-    lines.append("context: " + (" ".join(pairs) or "nothing"))
-    return "\n    ".join(lines)
+    length, *rows = dump(context_frame(key, known))
+    return "\n    ".join(lines + [f"context: {length}"] + rows)
 
 
 def play(text):

@@ -1,5 +1,5 @@
 pub mod Labels
 pub mod Places
-pub mod Gets
+pub mod Gifts
 pub mod Keys
 pub mod Sessions

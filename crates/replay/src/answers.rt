@@ -1,8 +1,10 @@
 // What a call answers.
 use crate::labels::Labelled;
 use crate::labels::LabelledDisplay;
+use crate::memory::Frame;
 use crate::memory::Reading;
 use clock::Context;
+use context_frames::write_context;
 use dvvset::Sibling;
 use refusals::Refusal;
 use std::fmt;
@@ -12,9 +14,10 @@ use values::Setting;
 pub enum Answer {
     // a put, with the dot of the write
     Written { column: u8, counter: u32 },
-    // a delete or an exchange
+    // a delete or a delivery
     Done,
     Seen(Reading),
+    Sent(Frame),
     Refused(Refusal),
 }
 
@@ -23,8 +26,9 @@ pub enum Answer {
 pub enum Outcome {
     // the call's number, and its answer
     Answered(u64, Answer),
-    // the call is not made: the one that it names is no earlier get of the key
+    // the call is not made: the one that it names is no earlier get, or send, of the key
     NoSuchGet { call: u64, key: u64 },
+    NoSuchSend { call: u64, key: u64 },
 }
 
 fn show_count<W: fmt::Write>(count: usize, f: &mut fmt::Formatter<W>) -> fmt::Result {
@@ -45,20 +49,34 @@ fn show_sibling<W: fmt::Write>(
     write!(f, "\n    column {column} counter {counter}: {value}")
 }
 
-// The tops above 0, or `nothing`.
-fn show_context<W: fmt::Write>(context: &Context, f: &mut fmt::Formatter<W>) -> fmt::Result {
-    f.write_str("\n    context:")?;
-    let mut empty = true;
-    for (column, top) in context.tops.iter().enumerate() {
-        if *top > 0 {
-            write!(f, " {column}:{top}")?;
-            empty = false;
+// In hexadecimal, sixteen to a line.
+fn show_bytes<W: fmt::Write>(bytes: &[u8], f: &mut fmt::Formatter<W>) -> fmt::Result {
+    for (i, byte) in bytes.iter().enumerate() {
+        if i % 16 == 0 {
+            f.write_str("\n    ")?;
+        } else {
+            f.write_str(" ")?;
         }
-    }
-    if empty {
-        return f.write_str(" nothing");
+        let byte = *byte;
+        write!(f, "{byte:02X}")?;
     }
     Ok(())
+}
+
+// The context as it is handed over.
+fn show_context<W: fmt::Write>(
+    key: u8,
+    context: &Context,
+    f: &mut fmt::Formatter<W>,
+) -> fmt::Result {
+    let mut bytes = [0; 196];
+    match write_context(key, context, &mut bytes) {
+        Ok(length) => {
+            write!(f, "\n    context: {length} bytes")?;
+            show_bytes(&bytes[0..length.min(196)], f)
+        }
+        Err(_) => Ok(()),
+    }
 }
 
 pub impl fmt::Display for Reading as ReadingDisplay {
@@ -67,7 +85,15 @@ pub impl fmt::Display for Reading as ReadingDisplay {
         for sibling in self.siblings.iter().take(self.count) {
             show_sibling(sibling, f)?;
         }
-        show_context(&self.context, f)
+        show_context(self.key, &self.context, f)
+    }
+}
+
+pub impl fmt::Display for Frame as FrameDisplay {
+    fn fmt<W: fmt::Write>(&self, f: &mut fmt::Formatter<W>) -> fmt::Result {
+        let length = self.length.min(1756);
+        write!(f, "{length} bytes")?;
+        show_bytes(&self.bytes[0..length], f)
     }
 }
 
@@ -79,6 +105,7 @@ pub impl fmt::Display for Answer as AnswerDisplay {
             }
             Answer::Done => f.write_str("done"),
             Answer::Seen(reading) => write!(f, "{reading}"),
+            Answer::Sent(frame) => write!(f, "{frame}"),
             Answer::Refused(refusal) => {
                 let number = refusal.number();
                 write!(f, "refused {number}")

@@ -5,8 +5,6 @@ use std::fmt;
 #[derive(Clone, Copy)]
 pub enum Part {
     Seat,
-    SendingSeat,
-    ReceivingSeat,
     Key,
     Measure,
     Label,
@@ -26,8 +24,6 @@ pub impl fmt::Display for Part as PartDisplay {
         f.write_str(
             match self {
                 Part::Seat => "seat",
-                Part::SendingSeat => "sending seat",
-                Part::ReceivingSeat => "receiving seat",
                 Part::Key => "key",
                 Part::Measure => "measure",
                 Part::Label => "label",

@@ -26,9 +26,13 @@ pub enum Call {
     Get {
         at: Spot,
     },
-    Exchange {
-        from: u64,
+    Send {
         at: Spot,
+    },
+    // `frame` is the number of the send that gave it
+    Deliver {
+        at: Spot,
+        frame: u64,
     },
 }
 
@@ -60,7 +64,8 @@ pub impl fmt::Display for Call as CallDisplay {
                 show_with(with, f)
             }
             Call::Get { at } => write!(f, "get {at}"),
-            Call::Exchange { from, at } => write!(f, "exchange {from} {at}"),
+            Call::Send { at } => write!(f, "send {at}"),
+            Call::Deliver { at, frame } => write!(f, "deliver {at} {frame}"),
         }
     }
 }

@@ -1,13 +1,13 @@
 // The calls on the keys of the seats, all in life 0.
 ghost use mathlib.Core.Path.{_≡_};
-ghost use mathlib.Core.Bool.{_&&_};
 ghost use lib.ListN.{replicate};
 ghost use Rattle.std.specs.Of.Vec.{vec-items};
 ghost use Rattle.std.specs.Vec.{made};
-ghost use Rattle.replay.specs.Keys.{Changes, Tells, delete-on, key-at, merge-on, no-state, put-on};
+ghost use Rattle.replay.specs.Keys.{Changes, Sends, Tells, delete-on, deliver-on, no-state, put-on};
 ghost use Rattle.replay.specs.Places.{column-of, indexed, placed, there};
 use crate::calls::Spot;
 use crate::memory::Cockpit;
+use crate::memory::Frame;
 use crate::memory::KeyState;
 use crate::memory::Reading;
 use clock::ColumnIndex;
@@ -16,15 +16,17 @@ use clock::Row;
 use clock::context_of;
 use clock::discard;
 use clock::list;
-use clock::merge;
 use clock::own_column;
 use clock::put;
 use dvvset::Dot;
 use dvvset::Sibling;
+use frames::merge_frame;
+use frames::write_frame;
 use refusals::Refusal;
 use std::alloc::AllocError;
 use std::alloc::Global;
 use values::Setting;
+use values::SettingValue;
 
 const BLANK_SETTING: Setting = Setting {
     measure: 0,
@@ -100,25 +102,32 @@ impl Cockpit {
         let count = list(&state.rows, &state.cells, &mut siblings)?;
         let context = context_of(&state.rows)?;
         Ok(Reading {
+            key: at.key as u8,
             siblings,
             count,
             context,
         })
     }
 
-    // The seat of `at` merges what the other has of the key.
-    pub fn exchange(&mut self, from: u64, at: Spot) -> Result<(), Refusal>
-        ensures { λ r. ⌜ Changes at (there (record { seat = from; key = at .key }) && there at) (merge-on (key-at (vec-items (now (self .entry) .states)) (record { seat = from; key = at .key }))) (vec-items (now (self .entry) .states)) (vec-items (now (self .exit) .states)) r ⌝ }
+    // The frame of what the seat has of the key.
+    pub fn send(&self, at: Spot) -> Result<Frame, Refusal>
+        ensures { λ r. ⌜ Sends at (vec-items (now (self .entry) .states)) r ⌝ }
     {
-        let other = place(Spot {
-            seat: from,
-            key: at.key,
-        })?;
         let place = place(at)?;
-        let other = self.states[other];
+        let state = self.states[place];
+        let mut bytes = [0; 1756];
+        let length = write_frame(at.key as u8, &state.rows, &state.cells, &mut bytes)?;
+        Ok(Frame { bytes, length })
+    }
+
+    // The seat merges a frame into what it has of the key; the answer is the frame's key.
+    pub fn deliver(&mut self, at: Spot, frame: &[u8]) -> Result<u8, Refusal>
+        ensures { λ r. ⌜ Changes at (there at) (deliver-on (now (frame .entry))) (vec-items (now (self .entry) .states)) (vec-items (now (self .exit) .states)) r ⌝ }
+    {
+        let place = place(at)?;
         let mut state = self.states[place];
-        merge(&mut state.rows, &mut state.cells, &other.rows, &other.cells)?;
+        let key = merge_frame(frame, &mut state.rows, &mut state.cells)?;
         self.states[place] = state;
-        Ok(())
+        Ok(key)
     }
 }

@@ -1,50 +1,49 @@
-// The contexts that the gets of a scenario gave.
+// What the calls of a scenario gave: contexts by gets, frames by sends.
 ghost use mathlib.Core.Path.{_≡_};
 ghost use mathlib.Core.Bool.{cond};
 ghost use mathlib.Core.List.{[], _∷_, _++_};
 ghost use Rattle.std.specs.Of.Vec.{vec-items};
 ghost use Rattle.std.specs.Results.{isOk};
-ghost use Rattle.replay.specs.Gets.{context-given};
-use clock::Context;
+ghost use Rattle.replay.specs.Gifts.{given};
 use std::alloc::AllocError;
 use std::alloc::Global;
 use std::alloc::Refused;
 
-// The context that a get gave.
+// What a call gave for a key.
 #[derive(Clone, Copy)]
-pub struct Given {
+pub struct Gift<T> {
     pub call: u64,
     pub key: u64,
-    pub context: Context,
+    pub what: T,
 }
 
 #[derive(Drop)]
-pub struct History {
-    pub(crate) gets: Vec<Given>,
+pub struct History<T> {
+    pub(crate) gifts: Vec<Gift<T>>,
 }
 
-impl History {
-    pub fn new(heap: Global) -> History
-        ensures { λ r. ⌜ vec-items (r .gets) ≡ [] ⌝ }
+impl<T: Copy> History<T> {
+    pub fn new(heap: Global) -> History<T>
+        ensures { λ r. ⌜ vec-items (r .gifts) ≡ [] ⌝ }
     {
         History {
-            gets: Vec::new(heap),
+            gifts: Vec::new(heap),
         }
     }
 
-    pub fn add(&mut self, get: Given) -> Result<(), Refused<Given>>
-        ensures { λ r. ⌜ vec-items (now (self .exit) .gets) ≡ cond (isOk r) (vec-items (now (self .entry) .gets) ++ get ∷ []) (vec-items (now (self .entry) .gets)) ⌝ }
+    pub fn add(&mut self, gift: Gift<T>) -> Result<(), Refused<Gift<T>>>
+        ensures { λ r. ⌜ vec-items (now (self .exit) .gifts) ≡ cond (isOk r) (vec-items (now (self .entry) .gifts) ++ gift ∷ []) (vec-items (now (self .entry) .gifts)) ⌝ }
     {
-        self.gets.push(get)
+        self.gifts.push(gift)
     }
 
-    // The context that a call gave for a key, if it was a get of that key.
-    pub fn context(&self, call: u64, key: u64) -> Option<Context>
-        ensures { λ r. ⌜ r ≡ context-given (vec-items (now (self .entry) .gets)) call key ⌝ }
+    // What a call gave for a key, if it gave something for that key.
+    pub fn find(&self, call: u64, key: u64) -> Option<T>
+        ensures { λ r. ⌜ r ≡ given (vec-items (now (self .entry) .gifts)) call key ⌝ }
     {
-        for get in self.gets.iter() {
-            if get.call == call && get.key == key {
-                return Some(get.context);
+        for gift in self.gifts.iter() {
+            if gift.call == call && gift.key == key {
+                return Some(gift.what);
             }
         }
         None

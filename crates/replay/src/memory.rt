@@ -20,10 +20,18 @@ pub struct Cockpit {
     ghost whole: { vec-len states ≡ 96 },
 }
 
-// What a get tells: the first `count` of the siblings, and the context.
+// What a get of a key tells: the first `count` of the siblings, and the context.
 #[derive(Clone, Copy)]
 pub struct Reading {
+    pub key: u8,
     pub siblings: [Sibling<Setting>; 96],
     pub count: usize,
     pub context: Context,
+}
+
+// The frame that a send gives: the first `length` of the bytes.
+#[derive(Clone, Copy)]
+pub struct Frame {
+    pub bytes: [u8; 1756],
+    pub length: usize,
 }

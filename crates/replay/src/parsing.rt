@@ -60,8 +60,8 @@ impl<'a> Words<'a> {
         number(part, word)
     }
 
-    fn spot(&mut self, seat: Part) -> Result<Spot, BadLine<'a>> {
-        let seat = self.number(seat)?;
+    fn spot(&mut self) -> Result<Spot, BadLine<'a>> {
+        let seat = self.number(Part::Seat)?;
         let key = self.number(Part::Key)?;
         Ok(Spot { seat, key })
     }
@@ -93,29 +93,35 @@ impl<'a> Words<'a> {
     }
 
     fn put(&mut self) -> Result<Call, BadLine<'a>> {
-        let at = self.spot(Part::Seat)?;
+        let at = self.spot()?;
         let value = self.setting()?;
         let with = self.with()?;
         Ok(Call::Put { at, value, with })
     }
 
     fn delete(&mut self) -> Result<Call, BadLine<'a>> {
-        let at = self.spot(Part::Seat)?;
+        let at = self.spot()?;
         let with = self.with()?;
         Ok(Call::Delete { at, with })
     }
 
     fn get(&mut self) -> Result<Call, BadLine<'a>> {
-        let at = self.spot(Part::Seat)?;
+        let at = self.spot()?;
         self.end()?;
         Ok(Call::Get { at })
     }
 
-    fn exchange(&mut self) -> Result<Call, BadLine<'a>> {
-        let from = self.number(Part::SendingSeat)?;
-        let at = self.spot(Part::ReceivingSeat)?;
+    fn send(&mut self) -> Result<Call, BadLine<'a>> {
+        let at = self.spot()?;
         self.end()?;
-        Ok(Call::Exchange { from, at })
+        Ok(Call::Send { at })
+    }
+
+    fn deliver(&mut self) -> Result<Call, BadLine<'a>> {
+        let at = self.spot()?;
+        let frame = self.number(Part::CallNumber)?;
+        self.end()?;
+        Ok(Call::Deliver { at, frame })
     }
 }
 
@@ -129,7 +135,8 @@ pub fn parse(line: &str) -> Result<Option<Call>, BadLine<'_>> {
         Some("put") => words.put()?,
         Some("delete") => words.delete()?,
         Some("get") => words.get()?,
-        Some("exchange") => words.exchange()?,
+        Some("send") => words.send()?,
+        Some("deliver") => words.deliver()?,
         Some(word) => return Err(BadLine::NoSuchCall(word)),
     };
     Ok(Some(call))

@@ -19,6 +19,12 @@ fn print_outcome(rt: &impl Print, line: u64, call: &Call, outcome: &Outcome) -> 
                 "line {line}: call {call} is no earlier get of key {key}"
             )
         }
+        Outcome::NoSuchSend { call, key } => {
+            println!(
+                rt,
+                "line {line}: call {call} is no earlier send of key {key}"
+            )
+        }
     }
 }
 
