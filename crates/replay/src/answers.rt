@@ -75,7 +75,10 @@ fn show_context<W: fmt::Write>(
             write!(f, "\n    context: {length} bytes")?;
             show_bytes(&bytes[0..length.min(196)], f)
         }
-        Err(_) => Ok(()),
+        Err(refusal) => {
+            let number = refusal.number();
+            write!(f, "\n    context: refused {number}")
+        }
     }
 }
 
