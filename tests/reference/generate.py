@@ -12,7 +12,7 @@ LABELS = ["A", "HDG", "with", "put", "#", "~!", "ABCDEFGHIJKL", "0"]
 BAD_LABELS = ["ABCDEFGHIJKLM", "é", "A\x7f", "A\x0bB", "\u00a0"]
 BAD_WORDS = ["Put", "fetch", "puts", "with", "é", "7", "\u2003"]
 # how many words a call has, without `with` and its number
-LENGTHS = {"put": 5, "delete": 3, "get": 3, "send": 3, "deliver": 4}
+LENGTHS = {"put": 5, "delete": 3, "get": 3, "send": 3, "deliver": 4, "save": 3}
 BLANKS = [" ", " ", " ", "  ", "\t", " \t ", " \f"]
 
 
@@ -82,6 +82,9 @@ class Scenario:
             return ["send", self.seat(), key]
         return ["deliver", self.seat(), key, fitting[-1] if self.odds(60) else self.pick(fitting)]
 
+    def save(self):
+        return ["save", self.seat(), self.key()]
+
     def spoil(self, words):
         """One fault more in the words of a call."""
         words = list(words)
@@ -127,8 +130,8 @@ class Scenario:
         return len(words) == LENGTHS[words[0]] or named in self.gets
 
     def call(self):
-        makers = [self.put, self.delete, self.get, self.send, self.deliver]
-        words = self.chance.choices(makers, [34, 7, 22, 15, 22])[0]()
+        makers = [self.put, self.delete, self.get, self.send, self.deliver, self.save]
+        words = self.chance.choices(makers, [34, 7, 22, 15, 22, 8])[0]()
         if self.odds(6):
             self.write(self.spoil(words))
             return

@@ -4,8 +4,9 @@
 Each seat has for each key the set of the events that it knows. An event is an
 accepted put or delete, and covers the writes that its context holds. What a seat
 holds of a key are the known writes that no known event covers. A send gives the set,
-and a delivery adds it to the receiver's. Frames and contexts in bytes are made from
-the sets, to be printed, and are never read back.
+and a delivery adds it to the receiver's. A save keeps the set in the seat's medium.
+Frames and contexts in bytes are made from the sets, to be printed, and are never read
+back.
 
 Reads a scenario from standard input and prints what each call answers.
 """
@@ -17,6 +18,7 @@ SEATS = 6
 KEYS = 16
 LAST_COUNTER = 999_999
 MOST_OWN = 4
+SLOTS_LEFT = 1760
 
 
 class BadLine(Exception):
@@ -56,10 +58,11 @@ def tops(known):
 
 
 class Cockpit:
-    """What the seats know of the keys; all seats are in their first life."""
+    """What the seats know of the keys, and what they saved of them; all are in their first life."""
 
     def __init__(self):
         self.known = {(seat, key): frozenset() for seat in range(SEATS) for key in range(KEYS)}
+        self.media = [{} for _ in range(SEATS)]
 
     def check(self, seat, key):
         if (seat, key) not in self.known:
@@ -95,6 +98,11 @@ class Cockpit:
     def deliver(self, seat, key, sent):
         self.check(seat, key)
         self.known[seat, key] = self.known[seat, key] | sent
+
+    def save(self, seat, key):
+        self.check(seat, key)
+        self.media[seat][key] = self.known[seat, key]
+        return self.media[seat]
 
 
 def field(tag, body):
@@ -260,6 +268,16 @@ class Replay:
 
         return f"deliver {seat} {key} {call}", run
 
+    def save(self, words):
+        seat = words.number("seat")
+        key = words.number("key")
+        words.end()
+
+        def run():
+            return holding(self.cockpit.save(seat, key))
+
+        return f"save {seat} {key}", run
+
     def play(self, line):
         words = Words(line)
         if not words.rest:
@@ -270,6 +288,7 @@ class Replay:
             "get": self.get,
             "send": self.send,
             "deliver": self.deliver,
+            "save": self.save,
         }
         name = words.rest.pop(0)
         if name not in readers:
@@ -303,6 +322,15 @@ def reading(key, known):
         lines.append(f"column {column} counter {counter}: {measure} {label}")
     length, *rows = dump(context_frame(key, known))
     return "\n    ".join(lines + [f"context: {length}"] + rows)
+
+
+def holding(medium):
+    """What a seat's medium holds after a save."""
+    lines = ["done"]
+    for key in sorted(medium):
+        length, *rows = dump(frame(key, medium[key]))
+        lines += [f"key {key}: {length}"] + rows
+    return "\n    ".join(lines + [f"left: {SLOTS_LEFT} bytes"])
 
 
 def play(text):

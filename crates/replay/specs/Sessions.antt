@@ -10,8 +10,9 @@ use Rattle.std.specs.declared.result.Result.{Result}
 use Rattle.clock.specs.declared.contexts.Context.{Context}
 use Rattle.replay.specs.Gifts.{given}
 use Rattle.replay.specs.Keys.{no-state}
+use Rattle.replay.specs.Saves.{AllFresh}
 use Rattle.replay.specs.declared.answers.Answer.{Answer}
-use Rattle.replay.specs.declared.answers.Answer.the-variants.{Written, Done, Seen, Sent, Refused}
+use Rattle.replay.specs.declared.answers.Answer.the-variants.{Written, Done, Seen, Sent, Saved, Refused}
 use Rattle.replay.specs.declared.answers.Outcome.{Outcome}
 use Rattle.replay.specs.declared.answers.Outcome.the-variants.{Answered, NoSuchGet, NoSuchSend}
 use Rattle.replay.specs.declared.history.Gift.{Gift}
@@ -25,7 +26,7 @@ abbrev pub sends-of : Session → List (Gift Frame)
 sends-of s = vec-items (s .sends .gifts)
 
 abbrev pub Fresh : Session → Type 0
-Fresh s = (vec-items (s .cockpit .states) ≡ replicate 96 no-state) × (gets-of s ≡ []) × (sends-of s ≡ []) × (s .calls ≡ 0)
+Fresh s = (vec-items (s .cockpit .states) ≡ replicate 96 no-state) × AllFresh (vec-items (s .media .slots)) × (gets-of s ≡ []) × (sends-of s ≡ []) × (s .calls ≡ 0)
 
 -- what a get of the key, with the number, adds to the contexts given
 abbrev pub context-gift : ℕ → ℕ → Answer → List (Gift Context)
@@ -33,6 +34,7 @@ context-gift call key (Written c n) = []
 context-gift call key Done = []
 context-gift call key (Seen x) = record { call = call; key = key; what = x .context } ∷ []
 context-gift call key (Sent x) = []
+context-gift call key (Saved x) = []
 context-gift call key (Refused e) = []
 
 -- what a send of the key, with the number, adds to the frames given
@@ -41,6 +43,7 @@ frame-gift call key (Written c n) = []
 frame-gift call key Done = []
 frame-gift call key (Seen x) = []
 frame-gift call key (Sent x) = record { call = call; key = key; what = x } ∷ []
+frame-gift call key (Saved x) = []
 frame-gift call key (Refused e) = []
 
 -- where no frame was found, the call and key that were looked for gave none

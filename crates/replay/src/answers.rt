@@ -2,6 +2,7 @@
 use crate::labels::Labelled;
 use crate::labels::LabelledDisplay;
 use crate::memory::Frame;
+use crate::memory::Holding;
 use crate::memory::Reading;
 use clock::Context;
 use context_frames::write_context;
@@ -18,6 +19,7 @@ pub enum Answer {
     Done,
     Seen(Reading),
     Sent(Frame),
+    Saved(Holding),
     Refused(Refusal),
 }
 
@@ -100,6 +102,19 @@ pub impl fmt::Display for Frame as FrameDisplay {
     }
 }
 
+pub impl fmt::Display for Holding as HoldingDisplay {
+    fn fmt<W: fmt::Write>(&self, f: &mut fmt::Formatter<W>) -> fmt::Result {
+        f.write_str("done")?;
+        for (key, frame) in self.frames.iter().enumerate() {
+            if frame.length != 0 {
+                write!(f, "\n    key {key}: {frame}")?;
+            }
+        }
+        let left = self.left;
+        write!(f, "\n    left: {left} bytes")
+    }
+}
+
 pub impl fmt::Display for Answer as AnswerDisplay {
     fn fmt<W: fmt::Write>(&self, f: &mut fmt::Formatter<W>) -> fmt::Result {
         match self {
@@ -109,6 +124,7 @@ pub impl fmt::Display for Answer as AnswerDisplay {
             Answer::Done => f.write_str("done"),
             Answer::Seen(reading) => write!(f, "{reading}"),
             Answer::Sent(frame) => write!(f, "{frame}"),
+            Answer::Saved(holding) => write!(f, "{holding}"),
             Answer::Refused(refusal) => {
                 let number = refusal.number();
                 write!(f, "refused {number}")

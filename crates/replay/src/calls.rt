@@ -29,6 +29,9 @@ pub enum Call {
     Send {
         at: Spot,
     },
+    Save {
+        at: Spot,
+    },
     // `frame` is the number of the send that gave it
     Deliver {
         at: Spot,
@@ -65,6 +68,7 @@ pub impl fmt::Display for Call as CallDisplay {
             }
             Call::Get { at } => write!(f, "get {at}"),
             Call::Send { at } => write!(f, "send {at}"),
+            Call::Save { at } => write!(f, "save {at}"),
             Call::Deliver { at, frame } => write!(f, "deliver {at} {frame}"),
         }
     }

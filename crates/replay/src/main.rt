@@ -5,6 +5,7 @@ mod calls;
 mod cockpit;
 mod history;
 mod labels;
+mod media;
 mod memory;
 mod parsing;
 mod playing;

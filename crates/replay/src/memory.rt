@@ -4,6 +4,7 @@ ghost use Rattle.std.specs.Of.Vec.{vec-len};
 use clock::Context;
 use clock::Row;
 use dvvset::Sibling;
+use media::Slots;
 use values::Setting;
 
 // What a seat has of a key.
@@ -34,4 +35,18 @@ pub struct Reading {
 pub struct Frame {
     pub bytes: [u8; 1756],
     pub length: usize,
+}
+
+// A medium for each seat.
+#[derive(Drop)]
+pub struct Media {
+    pub(crate) slots: Vec<Slots>,
+    ghost each: { vec-len slots ≡ 6 },
+}
+
+// What a medium holds: the frame of each key, of no bytes where there is none, and what is left.
+#[derive(Clone, Copy)]
+pub struct Holding {
+    pub frames: [Frame; 16],
+    pub left: usize,
 }

@@ -117,6 +117,12 @@ impl<'a> Words<'a> {
         Ok(Call::Send { at })
     }
 
+    fn save(&mut self) -> Result<Call, BadLine<'a>> {
+        let at = self.spot()?;
+        self.end()?;
+        Ok(Call::Save { at })
+    }
+
     fn deliver(&mut self) -> Result<Call, BadLine<'a>> {
         let at = self.spot()?;
         let frame = self.number(Part::CallNumber)?;
@@ -136,6 +142,7 @@ pub fn parse(line: &str) -> Result<Option<Call>, BadLine<'_>> {
         Some("delete") => words.delete()?,
         Some("get") => words.get()?,
         Some("send") => words.send()?,
+        Some("save") => words.save()?,
         Some("deliver") => words.deliver()?,
         Some(word) => return Err(BadLine::NoSuchCall(word)),
     };

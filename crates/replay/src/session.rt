@@ -9,23 +9,21 @@ use crate::calls::Call;
 use crate::calls::Spot;
 use crate::history::Gift;
 use crate::history::History;
+use crate::media::NO_FRAME;
 use crate::memory::Cockpit;
 use crate::memory::Frame;
+use crate::memory::Media;
 use clock::Context;
 use dvvset::Dot;
 use refusals::Refusal;
 use std::alloc::AllocError;
 use std::alloc::Global;
 
-const NO_FRAME: Frame = Frame {
-    bytes: [0; 1756],
-    length: 0,
-};
-
-// The seats, the contexts and frames given so far, and how many calls were made.
+// The seats and their media, the contexts and frames given so far, and how many calls were made.
 #[derive(Drop)]
 pub struct Session {
     cockpit: Cockpit,
+    media: Media,
     gets: History<Context>,
     sends: History<Frame>,
     calls: u64,
@@ -62,6 +60,7 @@ fn named_get(call: &Call) -> (u64, Option<u64>) {
         Call::Delete { at, with } => (at.key, with),
         Call::Get { at } => (at.key, None),
         Call::Send { at } => (at.key, None),
+        Call::Save { at } => (at.key, None),
         Call::Deliver { at, .. } => (at.key, None),
     }
 }
@@ -73,6 +72,7 @@ impl Session {
     {
         Ok(Session {
             cockpit: Cockpit::new(heap)?,
+            media: Media::new(heap)?,
             gets: History::new(heap),
             sends: History::new(heap),
             calls: 0,
@@ -117,6 +117,22 @@ impl Session {
         }
     }
 
+    // Saves the frame of what the seat has of the key, and answers what its medium holds then.
+    fn save(&mut self, at: Spot) -> Answer
+        ensures { λ r. ⌜ now (self .exit) .calls ≡ now (self .entry) .calls ⌝ }
+    {
+        let frame = match self.cockpit.send(at) {
+            Ok(frame) => frame,
+            Err(refusal) => return Answer::Refused(refusal),
+        };
+        let length = frame.length.min(1756);
+        match self.media
+            .save(at.seat, at.key as u8, &frame.bytes[0..length]) {
+            Ok(()) => Answer::Saved(self.media.holding(at.seat)),
+            Err(refusal) => Answer::Refused(refusal),
+        }
+    }
+
     fn answer(
         &mut self,
         call: &Call,
@@ -130,6 +146,7 @@ impl Session {
             Call::Delete { at, .. } => Ok(done(self.cockpit.delete(at, context))),
             Call::Get { at } => self.get(at),
             Call::Send { at } => self.send(at),
+            Call::Save { at } => Ok(self.save(at)),
             Call::Deliver { at, .. } => {
                 let length = frame.length.min(1756);
                 Ok(delivered(self.cockpit.deliver(at, &frame.bytes[0..length])))
