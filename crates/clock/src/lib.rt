@@ -1,4 +1,6 @@
 // The clock of one key over lent memory: 24 rows, and four value cells for each. Nothing is allocated.
+#![tactic(auto)]
+
 mod columns;
 mod contexts;
 mod indices;

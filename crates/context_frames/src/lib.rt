@@ -1,4 +1,6 @@
 // Contexts as bytes: read from lent bytes, and written into lent memory.
+#![tactic(auto)]
+
 mod reading;
 mod seen_keys;
 mod writing;

@@ -1,4 +1,6 @@
 // A cursor over lent bytes, which hands out fields that borrow them.
+#![tactic(auto)]
+
 mod cursors;
 mod fields;
 mod steps;

@@ -1,4 +1,6 @@
 // The dotted version vector set: what the clock of one key means, and the laws of that meaning.
+#![tactic(auto)]
+
 mod laws;
 mod writes;
 

@@ -1,4 +1,6 @@
 // The worked examples of the documents, computed on the definitions that the contracts cite.
+#![tactic(auto)]
+
 ghost use Rattle.examples.specs.Table.{Table};
 
 // They hold for values of any type.

@@ -1,4 +1,6 @@
 // What frames, contexts and entries mean, byte by byte, and the theorems that each has one form in bytes and one reading.
+#![tactic(auto)]
+
 ghost use Rattle.formats.specs.Entries.{OneLog};
 ghost use Rattle.formats.specs.OneFrame.{OneContext, OneFrame};
 

@@ -1,4 +1,6 @@
 // State frames: checked, merged into lent memory, loaded and written.
+#![tactic(auto)]
+
 mod checking;
 mod merging;
 mod taking;

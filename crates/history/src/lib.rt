@@ -1,4 +1,6 @@
 // A plain machine of sets of events, and that the clock's states refine it: each theorem is the contract of a function.
+#![tactic(auto)]
+
 ghost use Rattle.history.specs.Refines.{Refines};
 ghost use Rattle.history.specs.Scenarios.{Scenarios};
 ghost use Rattle.history.specs.Sanity.{PutIsHeld, PutStandsAlone, ExchangeAgrees, LastCounterRefused};

@@ -1,4 +1,6 @@
 // The two calls for a display host written in C: on setting frames, as pointers and lengths.
+#![tactic(auto)]
+
 mod exports;
 mod merging;
 

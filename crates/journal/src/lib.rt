@@ -1,4 +1,6 @@
 // A medium over a lent buffer, to which each save appends an entry.
+#![tactic(auto)]
+
 mod appending;
 mod entries;
 mod journals;

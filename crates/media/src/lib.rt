@@ -1,4 +1,6 @@
 // What keeps the newest frame of each key: the trait of all media, a medium of plain slots, and a layer over any medium.
+#![tactic(auto)]
+
 mod admission;
 mod medium;
 mod orders;

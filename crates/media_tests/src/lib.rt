@@ -1,4 +1,6 @@
 // Tests of the media: known bytes, refusals, and layers over layers.
+#![tactic(auto)]
+
 #[cfg(test)]
 mod tests {
     use journal::{fresh, open, save_and_reopen};

@@ -1,4 +1,6 @@
 // Why a call was refused: one case for each kind, and its number and offset.
+#![tactic(auto)]
+
 ghost use Rattle.std.specs.Prelude.{◌≡◌};
 ghost use Rattle.refusals.specs.Refusals.{number, offset};
 

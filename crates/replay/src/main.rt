@@ -1,4 +1,6 @@
 // Plays a scenario from standard input, and prints what each call answers.
+#![tactic(auto)]
+
 mod answers;
 mod bad_lines;
 mod calls;

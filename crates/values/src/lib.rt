@@ -1,4 +1,6 @@
 // Values that stand in frames as a fixed number of bytes: settings, detents and places.
+#![tactic(auto)]
+
 mod detent;
 mod measured;
 mod place;

@@ -1,4 +1,6 @@
 // Known bytes of the three values, the order of measures around zero, and a round trip for every value.
+#![tactic(auto)]
+
 ghost use Rattle.values.specs.Memory.{in_memory, overwritten};
 ghost use Rattle.std.specs.Prelude.{◌≡◌};
 
