@@ -21,7 +21,7 @@ module _ {V : Type 0} where
     pub merge_right : count_of a ≤ length xs → top_of a < top_of b → top_of r ≡ top_of b → count_of r ≡ min (top_of b - top_of a + count_of a) (count_of b) → column r ys ≡ merge_column (column a xs) (column b ys)
     merge_right few lt t n =
         let l : length (take (count_of a) xs) ≡ count_of a = length-take-le (count_of a) xs few in
-        first_is b r (top_of b - top_of a + count_of a) ys t n ∙ sym (merging.merge-right (column a xs) (column b ys) lt ∙ ap (λ k. first (top_of b - top_of a + k) (column b ys)) l)
+        first_is b r (top_of b - top_of a + count_of a) ys t n ∙ sym (merging.merge_right (column a xs) (column b ys) lt ∙ ap (λ k. first (top_of b - top_of a + k) (column b ys)) l)
 
   pub discard_is : (a r : Row) (n : ℕ) (xs : List V) → top_of r ≡ max (top_of a) n → count_of r ≡ min (top_of a - n) (count_of a) → column r xs ≡ discard_column (column a xs) n
   unfolding discard_column

@@ -117,16 +117,16 @@ module _ (bs : List ℕ) where
   module _ (at from : ℕ) (tops : List ℕ) (mid : Midway at from tops) where
     pub at_the_end : length bs ≤ at → Ok tops ≡ read 0 4
     at_the_end l =
-        sym (mid.read-so-far ∙ ap (λ d. behind (take from tops) (rising top_told 0 (24 - from) from at d)) (drop_all at bs l) ∙ ap (behind (take from tops)) (walk_end top_told 0 (λ a. refl) (24 - from) from at) ∙ ap (λ xs. Ok (take from tops ++ xs)) (sym mid.rest) ∙ ap Ok (take-append-drop from tops))
+        sym (mid.read_so_far ∙ ap (λ d. behind (take from tops) (rising top_told 0 (24 - from) from at d)) (drop_all at bs l) ∙ ap (behind (take from tops)) (walk_end top_told 0 (λ a. refl) (24 - from) from at) ∙ ap (λ xs. Ok (take from tops ++ xs)) (sym mid.rest) ∙ ap Ok (take-append-drop from tops))
 
     pub at_refused : (e : Refusal) → at < length bs → Err e ≡ top_seen at (drop at bs) → Err e ≡ read 0 4
-    at_refused e l h = sym (mid.read-so-far ∙ ap (behind (take from tops)) (walk_refused top_told 0 (λ a. refl) (24 - from) from at (drop at bs) e (simp length-drop (omega arith)) (top_refused at (drop at bs) e h)))
+    at_refused e l h = sym (mid.read_so_far ∙ ap (behind (take from tops)) (walk_refused top_told 0 (λ a. refl) (24 - from) from at (drop at bs) e (simp length-drop (omega arith)) (top_refused at (drop at bs) e h)))
 
     module _ (j t : ℕ) (body : List ℕ) (p : ℕ) (h : Ok (a_top j t body p) ≡ top_seen at (drop at bs)) where
       pub at_past : j < from → Err (OutOfOrder p) ≡ read 0 4
       at_past l =
           let f = top-found at (drop at bs) j t body p h in
-          sym (mid.read-so-far ∙ ap (behind (take from tops)) (walk_past top_told 0 (λ a. refl) (24 - from) from at (drop at bs) _ f.1.is l) ∙ ap (λ q. Err (OutOfOrder q)) (sym f.0))
+          sym (mid.read_so_far ∙ ap (behind (take from tops)) (walk_past top_told 0 (λ a. refl) (24 - from) from at (drop at bs) _ f.1.is l) ∙ ap (λ q. Err (OutOfOrder q)) (sym f.0))
 
       pub at_next : from ≤ j → Midway (at + 8) (j + 1) (set tops j t)
       at_next l =
@@ -149,9 +149,9 @@ module _ (bs : List ℕ) where
           let lR : length (A ++ R) ≡ j + 1 = omega (arith, length-append A R, length-append (replicate k 0) (t ∷ []), length-replicate {A = ℕ} k 0) in
           record {
             within = omega arith;
-            read_so_far = mid.read-so-far ∙ ap (behind A) on ∙ both A R X ∙ ap (λ d. behind (A ++ R) (rising top_told 0 (24 - (j + 1)) (j + 1) (at + 8) d)) (drop-drop 8 at bs) ∙ ap (λ xs. behind xs (read (j + 1) (at + 8))) (sym (ap (take (j + 1)) now ∙ take_at (A ++ R) Z (j + 1) lR));
+            read_so_far = mid.read_so_far ∙ ap (behind A) on ∙ both A R X ∙ ap (λ d. behind (A ++ R) (rising top_told 0 (24 - (j + 1)) (j + 1) (at + 8) d)) (drop-drop 8 at bs) ∙ ap (λ xs. behind xs (read (j + 1) (at + 8))) (sym (ap (take (j + 1)) now ∙ take_at (A ++ R) Z (j + 1) lR));
             rest = ap (drop (j + 1)) now ∙ drop_at (A ++ R) Z (j + 1) lR;
-            low = bounded_set 999999 j t tops f.top-low mid.low;
+            low = bounded_set 999999 j t tops f.top_low mid.low;
           }
         where
           both : (xs ys : List ℕ) (r : Result (List ℕ) Refusal) → behind xs (behind ys r) ≡ behind (xs ++ ys) r

@@ -42,5 +42,5 @@ pub record Table {V : Type 0} (a b c p q r : V) : Type 0 where
   pub fourth_life : owned 1 3 ≡ Some 7
   pub mute : owned 1 4 ≡ None
   -- frames, whatever a value's width: key 15 without writes, and a key that is none
-  pub no_writes-frame : (w : ℕ) (value_of : List ℕ → V) → reading w value_of (0x01 ∷ 0x00 ∷ 0x01 ∷ 0x0F ∷ []) ≡ Ok (record { key = 15; what = blank })
+  pub no_writes_frame : (w : ℕ) (value_of : List ℕ → V) → reading w value_of (0x01 ∷ 0x00 ∷ 0x01 ∷ 0x0F ∷ []) ≡ Ok (record { key = 15; what = blank })
   pub no_such_key : (w : ℕ) (value_of : List ℕ → V) → reading w value_of (0x01 ∷ 0x00 ∷ 0x01 ∷ 0x10 ∷ []) ≡ Err (OutOfRange 0)

@@ -95,7 +95,7 @@ module _ {V : Type 0} {width : ℕ} {bytes_of : V → List ℕ} {value_of : List
           fit = is.1;
         },
         ne_eqb (top bd) 0 (λ e. omega (arith, e, leb-true 1 (top bd) s.0)),
-        g.1.rest-bytes,
+        g.1.rest_bytes,
       )
 
   pub kind : Kind unwritten (column_field bytes_of) (column_told width value_of) no_writes (Good valid)

@@ -19,7 +19,7 @@ entry_written at e rest g =
     then_goes (entry_told at (entry_field e ++ rest)) _ (record { entry = e; next = at + (3 + length bd); rest = rest }) _
     (then_goes (tagged 16 at (entry_field e ++ rest)) _ _ _ (tagged-field 16 at bd rest (omega (arith, g.few)))
     (unless_goes (WrongLength at) (leb 5 (length bd) && leb (length bd) 1757) _ _ (and_from _ _ (le-leb 5 (length bd) (omega (arith, g.some))) (le-leb (length bd) 1757 (omega (arith, g.few))))
-    (unless_goes (OutOfRange at) (leb e.key 15) _ _ (le-leb e.key 15 g.low-key) refl)))
+    (unless_goes (OutOfRange at) (leb e.key 15) _ _ (le-leb e.key 15 g.low_key) refl)))
     (let n : at + (3 + length bd) ≡ at + (4 + length e.frame) = omega arith in ap (λ m. Ok (Some (record { entry = e; next = m; rest = rest }))) n)
 
 -- an entry that is told is cut from the bytes
@@ -84,12 +84,12 @@ cut at bs t e =
     let o = then_ok (framed at bs) _ _ p.field_is in
     let q = unless_ok (UnexpectedTag at) (eqb o.0.tag 16) _ _ o.2 in
     let f = framed_cut at bs (record { tag = p.tag; body = p.body; rest = t.rest }) (o.1 ∙ ap Ok (ok_same q.1)) in
-    let l : length t.entry.frame ≡ length p.body - 1 = ap (λ q. length q.frame) p.entry-is ∙ length-drop 1 p.body in
-    let k = ap (λ q. q.key) p.entry-is in
+    let l : length t.entry.frame ≡ length p.body - 1 = ap (λ q. length q.frame) p.entry_is ∙ length-drop 1 p.body in
+    let k = ap (λ q. q.key) p.entry_is in
     let n : 3 + length p.body ≡ 4 + length t.entry.frame = omega (arith, p.five) in
     record {
-      fit = record { low_key = omega (arith, p.low-key); some = omega (arith, p.five); few = omega (arith, p.most) };
-      next = p.next-is ∙ ap (λ m. at + m) n;
+      fit = record { low_key = omega (arith, p.low_key); some = omega (arith, p.five); few = omega (arith, p.most) };
+      next = p.next_is ∙ ap (λ m. at + m) n;
       rest = f.0 ∙ ap (λ m. drop m bs) n;
       long = omega (arith, f.1);
     }
@@ -104,7 +104,7 @@ was_written at bs t b e =
     let p = passed at bs t e in
     let g = field-tagged 16 at bs _ b p.field_is in
     let w = whole-body p.body p.five in
-    (g.1.is ∙ ap (λ m. field m p.body ++ t.rest) g.0 ∙ ap (λ bd. field 16 bd ++ t.rest) (sym w) ∙ ap (λ q. entry_field q ++ t.rest) (sym p.entry-is), g.1.rest-bytes)
+    (g.1.is ∙ ap (λ m. field m p.body ++ t.rest) g.0 ∙ ap (λ bd. field 16 bd ++ t.rest) (sym w) ∙ ap (λ q. entry_field q ++ t.rest) (sym p.entry_is), g.1.rest_bytes)
 
 -- ---- all entries
 

@@ -51,7 +51,7 @@ module _ {A : Type 0} (absent : A → Bool) (field_of : ℕ → A → List ℕ) 
   pass : (n c at : ℕ) (bs : List ℕ) → First at (c + 1) bs → read (suc n) c at bs ≡ in_front nothing (read n (c + 1) at bs)
   unfolding rising
   pass n c at bs first =
-      ⊎_elim (λ (p : bs ≡ []). rw p refl) (λ q. turn_later told nothing kind.at-end n c at bs q.0 q.1 (omega (arith, q.2))) first
+      ⊎_elim (λ (p : bs ≡ []). rw p refl) (λ q. turn_later told nothing kind.at_end n c at bs q.0 q.1 (omega (arith, q.2))) first
 
   pub reads_back : (n c at : ℕ) (xs : List A) → length xs ≡ n → c + n ≡ 24 → All good xs → read n c at (fields c xs) ≡ Ok xs
   unfolding rising
@@ -63,10 +63,10 @@ module _ {A : Type 0} (absent : A → Bool) (field_of : ℕ → A → List ℕ) 
       split : ((next : ℕ) → read n (c + 1) next (fields (c + 1) xs) ≡ Ok xs) → read (suc n) c at (fields c (a ∷ xs)) ≡ Ok (a ∷ xs)
       split rest =
           ⊎_elim
-          (λ (p : absent a ≡ true). ap (read (suc n) c at) (fields_gone c a xs p) ∙ pass n c at (fields (c + 1) xs) (first_field at (c + 1) xs (omega arith) h.1) ∙ ap (in_front nothing) (rest at) ∙ ap (λ b. Ok (b ∷ xs)) (sym (kind.absent-nothing a h.0 p)))
+          (λ (p : absent a ≡ true). ap (read (suc n) c at) (fields_gone c a xs p) ∙ pass n c at (fields (c + 1) xs) (first_field at (c + 1) xs (omega arith) h.1) ∙ ap (in_front nothing) (rest at) ∙ ap (λ b. Ok (b ∷ xs)) (sym (kind.absent_nothing a h.0 p)))
           (λ (p : absent a ≡ false).
           let w = kind.written at c a (fields (c + 1) xs) (omega arith) h.0 p in
-          ap (read (suc n) c at) (fields_here c a xs p) ∙ turn_here told nothing kind.at-end n c at (field_of c a ++ fields (c + 1) xs) _ w.1 refl ∙ ap (in_front a) (rest w.0))
+          ap (read (suc n) c at) (fields_here c a xs p) ∙ turn_here told nothing kind.at_end n c at (field_of c a ++ fields (c + 1) xs) _ w.1 refl ∙ ap (in_front a) (rest w.0))
           (cases_Bool (absent a))
 
   -- ---- what is read was so written
@@ -80,7 +80,7 @@ module _ {A : Type 0} (absent : A → Bool) (field_of : ℕ → A → List ℕ) 
   front_of a r xs e = let u = then_ok r _ xs e in (u.0, u.1, sym (ok_same u.2))
 
   wrote_gone : (n c : ℕ) (bs : List ℕ) (xs ys : List A) → xs ≡ nothing ∷ ys → Wrote n (c + 1) bs ys → Wrote (suc n) c bs xs
-  wrote_gone n c bs xs ys e w = rw e (record { wide = ap suc w.wide; each = (kind.nothing-good, w.each); is = fields_gone c nothing ys kind.nothing-absent ∙ w.is })
+  wrote_gone n c bs xs ys e w = rw e (record { wide = ap suc w.wide; each = (kind.nothing_good, w.each); is = fields_gone c nothing ys kind.nothing_absent ∙ w.is })
 
   pub was_written : (n c at : ℕ) (bs : List ℕ) (xs : List A) → Bytes bs → read n c at bs ≡ Ok xs → Wrote n c bs xs
   unfolding rising
@@ -89,7 +89,7 @@ module _ {A : Type 0} (absent : A → Bool) (field_of : ℕ → A → List ℕ) 
   was_written (suc n) c at [] xs b e = let u = front_of nothing (read n (c + 1) at []) xs e in wrote_gone n c [] xs u.0 u.2 (was_written n (c + 1) at [] u.0 b u.1)
   was_written (suc n) c at (x ∷ bs) xs b e =
       let u = then_ok (told at (x ∷ bs)) _ xs e in
-      split u.0 u.1 u.2 (λ ys p. was_written n (c + 1) at (x ∷ bs) ys b p) (λ ys p. was_written n (c + 1) u.0.next u.0.rest ys (kind.was-written at (x ∷ bs) u.0 b u.1).3 p)
+      split u.0 u.1 u.2 (λ ys p. was_written n (c + 1) at (x ∷ bs) ys b p) (λ ys p. was_written n (c + 1) u.0.next u.0.rest ys (kind.was_written at (x ∷ bs) u.0 b u.1).3 p)
     where
       split : (f : Told A) → told at (x ∷ bs) ≡ Ok f → cond (ltb f.column c) (Err (OutOfOrder at)) (cond (eqb f.column c) (in_front f.what (read n (c + 1) f.next f.rest)) (in_front nothing (read n (c + 1) at (x ∷ bs)))) ≡ Ok xs →
           ((ys : List A) → read n (c + 1) at (x ∷ bs) ≡ Ok ys → Wrote n (c + 1) (x ∷ bs) ys) → ((ys : List A) → read n (c + 1) f.next f.rest ≡ Ok ys → Wrote n (c + 1) f.rest ys) → Wrote (suc n) c (x ∷ bs) xs
@@ -105,6 +105,6 @@ module _ {A : Type 0} (absent : A → Bool) (field_of : ℕ → A → List ℕ) 
           here : f.column ≡ c → in_front f.what (read n (c + 1) f.next f.rest) ≡ Ok xs → Wrote (suc n) c (x ∷ bs) xs
           here h e =
               let v = front_of f.what (read n (c + 1) f.next f.rest) xs e in
-              let w = kind.was-written at (x ∷ bs) f b t in
+              let w = kind.was_written at (x ∷ bs) f b t in
               let r = rest v.0 v.1 in
               rw v.2 (record { wide = ap suc r.wide; each = (w.1, r.each); is = fields_here c f.what v.0 w.2 ∙ ap (λ d. field_of c f.what ++ d) r.is ∙ ap (λ d. field_of d f.what ++ f.rest) (sym h) ∙ sym w.0 })

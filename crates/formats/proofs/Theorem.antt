@@ -18,7 +18,7 @@ module _ {V : Type 0} {width : ℕ} {bytes_of : V → List ℕ} {value_of : List
 
   column_good : (S : State V) → All (Good valid) S → (c : ℕ) → Good valid (column_at S c)
   column_good S each c =
-      ⊎_elim (λ (h : c < length S). All-get_or (Good valid) S c no_writes h each) (λ (h : length S ≤ c). rw (get_or_past S c no_writes h) (kind code).nothing-good) (cases_lt c (length S))
+      ⊎_elim (λ (h : c < length S). All-get_or (Good valid) S c no_writes h each) (λ (h : length S ≤ c). rw (get_or_past S c no_writes h) (kind code).nothing_good) (cases_lt c (length S))
 
   -- how long the fields are
   length_fields : (c : ℕ) (S : State V) → All (Good valid) S → length (rising_fields unwritten (column_field bytes_of) c S) ≡ fields_length width S

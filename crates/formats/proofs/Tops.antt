@@ -47,7 +47,7 @@ top_was_written at bs f b e =
       g.1.is ∙ ap (λ t. field t bd ++ u.0.rest) g.0 ∙ ap (λ d. field 4 d ++ u.0.rest) (sym (body_is bd (eqb-true (length bd) 5 v.0) g.1.body_bytes)),
       leb-true (top bd) 999999 q.1,
       ne_eqb (top bd) 0 (λ z. omega (arith, z, leb-true 1 (top bd) q.0)),
-      g.1.rest-bytes,
+      g.1.rest_bytes,
     )
 
 pub kind : Kind (λ t. eqb t 0) top_field top_told 0 (λ t. t ≤ 999999)

@@ -30,7 +30,7 @@ head_was_written due at bs h b e =
     let w = unless_ok (OutOfRange at) (leb (get_or bd 0 0) 15) _ h v.1 in
     let g = field-tagged due at bs u.0 b u.1 in
     rw (← ok_same w.1)
-    (g.1.is ∙ ap (λ t. field t bd ++ u.0.rest) g.0 ∙ ap (λ d. field due d ++ u.0.rest) (sym (single bd (eqb-true (length bd) 1 v.0))), leb-true (get_or bd 0 0) 15 w.0, g.1.rest-bytes)
+    (g.1.is ∙ ap (λ t. field t bd ++ u.0.rest) g.0 ∙ ap (λ d. field due d ++ u.0.rest) (sym (single bd (eqb-true (length bd) 1 v.0))), leb-true (get_or bd 0 0) 15 w.0, g.1.rest_bytes)
 
 -- ---- the whole
 

@@ -102,6 +102,6 @@ module _ {V : Type 0} (w : ℕ) (value_of : List ℕ → V) (bs : List ℕ) wher
                 low = omega arith;
                 left = x.rest ∙ ap Ok (drop-drop (j - mid.from + 1) mid.from T ∙ ap (λ m. drop m T) next_is);
                 done = upto_more merge_column j (state rows₀ cells₀) T no_writes no_writes (state rows cells) (state (set rows j r) (put_mid (4 * j) k cells ys)) (column r ys) (omega (arith, length-state rows₀ cells₀)) (omega arith) skip (is ∙ ap (λ m. merge_column m (record { top = t; values = values_of w value_of n vs })) mine ∙ ap (merge_column (get_or (state rows cells) j no_writes)) (sym here)) (state-put rows cells j r low long k ys four len room);
-                rows_beyond = drop-set-lt 24 rows j r low ∙ mid.rows-beyond;
-                cells_beyond = drop-put_mid (4 * j) k cells ys 96 (omega arith) (omega arith) (omega arith) ∙ mid.cells-beyond;
+                rows_beyond = drop-set-lt 24 rows j r low ∙ mid.rows_beyond;
+                cells_beyond = drop-put_mid (4 * j) k cells ys 96 (omega arith) (omega arith) (omega arith) ∙ mid.cells_beyond;
               }

@@ -141,7 +141,7 @@ module _ {V : Type 0} where
           later = inv.later;
           within = inv.within;
           unsaved = inv.unsaved;
-          last_life = inv.last-life;
+          last_life = inv.last_life;
         }
       where
         fits : (k : ℕ) (K : Events V) → Fit (H k) E n K → Fit (H k) E' n' K
@@ -160,7 +160,7 @@ module _ {V : Type 0} where
         record {
           all-writes = H;
           all_events = E;
-          inv = record { count = omega arith; full = more.full; bounded = more.bounded; knows = more.knows; keeps = more.keeps; gave = more.gave; mine = more.mine; later = more.later; within = more.within; unsaved = more.unsaved; last_life = more.last-life };
+          inv = record { count = omega arith; full = more.full; bounded = more.bounded; knows = more.knows; keeps = more.keeps; gave = more.gave; mine = more.mine; later = more.later; within = more.within; unsaved = more.unsaved; last_life = more.last_life };
         }
 
   -- ---- what becomes of a world
@@ -172,7 +172,7 @@ module _ {V : Type 0} where
   module _ (H : ℕ → List (Write V)) (E : ℕ → Event V) (n : ℕ) (w : World V) (inv : Inv H E n w) where
     inv_owed : (f : ℕ → ℕ → Option ℕ) → Inv H E n (with_owed w f)
     inv_owed f =
-        record { count = inv.count; full = inv.full; bounded = inv.bounded; knows = inv.knows; keeps = inv.keeps; gave = inv.gave; mine = inv.mine; later = inv.later; within = inv.within; unsaved = inv.unsaved; last_life = inv.last-life }
+        record { count = inv.count; full = inv.full; bounded = inv.bounded; knows = inv.knows; keeps = inv.keeps; gave = inv.gave; mine = inv.mine; later = inv.later; within = inv.within; unsaved = inv.unsaved; last_life = inv.last_life }
 
     inv_hand_out : (g : Gift V) → FitGift H E n g → Inv H E n (hand_out w g)
     inv_hand_out g h =
@@ -187,7 +187,7 @@ module _ {V : Type 0} where
           later = inv.later;
           within = inv.within;
           unsaved = inv.unsaved;
-          last_life = inv.last-life;
+          last_life = inv.last_life;
         }
 
     inv_keep : (s k : ℕ) → Inv H E n (keep w s k)
@@ -203,7 +203,7 @@ module _ {V : Type 0} where
           later = inv.later;
           within = set_key-all (λ r j K. Within K (w.known r j)) w.kept s k (w.known s k) (all_has_itself (w.known s k)) inv.within;
           unsaved = set_key_both (λ b K. b ≡ false → K ≡ []) w.saved w.kept s k true (w.known s k) (λ e. let z : ◌≡◌ {A = ℕ} 0 1 = cc in absurd (omega arith)) inv.unsaved;
-          last_life = inv.last-life;
+          last_life = inv.last_life;
         }
 
     -- a seat learns, and writes nothing
@@ -221,7 +221,7 @@ module _ {V : Type 0} where
           later = inv.later;
           within = set_key-all (λ r j K. Within (w.kept r j) K) w.known s k X (within_all (w.kept s k) (w.known s k) X (inv.within s k) more) inv.within;
           unsaved = inv.unsaved;
-          last_life = inv.last-life;
+          last_life = inv.last_life;
         }
 
     inv_wake : (s : ℕ) → Inv H E n (wake w s)
@@ -237,7 +237,7 @@ module _ {V : Type 0} where
           later = λ r k. set_at-all (λ r x. (l : ℕ) → x < l → l < 4 → highest (4 * r + l) (H k) ≡ 0) w.life s (next_life (w.life s)) (λ l m n. inv.later s k l (next_above l m) n) (λ r d. inv.later r k) r;
           within = set_at-all (λ r x. (k : ℕ) → Within (w.kept r k) (x k)) w.known s (w.kept s) (λ k. all_has_itself (w.kept s k)) (λ r d. inv.within r);
           unsaved = inv.unsaved;
-          last_life = set_at-all (λ r x. x ≤ 4) w.life s (next_life (w.life s)) (next_most (w.life s) (inv.last-life s)) (λ r d. inv.last-life r);
+          last_life = set_at-all (λ r x. x ≤ 4) w.life s (next_life (w.life s)) (next_most (w.life s) (inv.last_life s)) (λ r d. inv.last_life r);
         }
       where
         unwritten : (k : ℕ) → next_life (w.life s) < 4 → highest (4 * s + next_life (w.life s)) (H k) ≡ 0
@@ -299,7 +299,7 @@ module _ {V : Type 0} where
             later = λ r j l m n. elsewhere (4 * r + l) j (not_later r l m n) ∙ inv.later r j l m n;
             within = set_key-all (λ r j K. Within (w.kept r j) K) w.known s k X (within_all (w.kept s k) (w.known s k) X (inv.within s k) more) inv.within;
             unsaved = inv.unsaved;
-            last_life = inv.last-life;
+            last_life = inv.last_life;
           }
         where
           bounded_here : (c : ℕ) → highest c (next o v (H k) ∷ H k) ≤ last_counter
@@ -360,7 +360,7 @@ module _ {V : Type 0} where
     H = good.all-writes
 
     abbrev E : ℕ → Event V
-    E = good.all-events
+    E = good.all_events
 
     -- with no event at this call
     at_next : Inv H E (w.calls + 1) w
@@ -427,7 +427,7 @@ module _ {V : Type 0} where
               all-writes = with_write H (own w s) k v;
               all_events = e_with C y;
               inv =
-                  inv_owed (with_write H (own w s) k v) (e_with C y) (w.calls + 1) (learn w s k (join w.calls K C y)) (inv_write H (e_with C y) (w.calls + 1) w i s k v (join w.calls K C y) p.seat p.alive p.counter-left
+                  inv_owed (with_write H (own w s) k v) (e_with C y) (w.calls + 1) (learn w s k (join w.calls K C y)) (inv_write H (e_with C y) (w.calls + 1) w i s k v (join w.calls K C y) p.seat p.alive p.counter_left
                   (record {
                     sound = sound-put (H k) (i.full k) w.calls (own w s) K C (i.knows s k).sound h.sound mine v p.room inside;
                     traced = traced_join (e_with C y) w.calls K C y (i.knows s k).traced h.traced (its_event C y);
@@ -439,4 +439,4 @@ module _ {V : Type 0} where
     pub good-step : (c : Call V) → Good (next-world bytes_of w c)
     good-step c =
         let g = by_step bytes_of w (λ r. GoodAt (w.calls + 1) r.world) ways c in
-        good_tick g.all-writes g.all-events (w.calls + 1) (step bytes_of w c).world g.inv
+        good_tick g.all-writes g.all_events (w.calls + 1) (step bytes_of w c).world g.inv

@@ -34,9 +34,9 @@ map_option f (Some x) = Some (f x)
 
 module _ {V : Type 0} where
   abbrev pub image_gift : Gift V → ClockGift V
-  image_gift machine.no-gift = clocks.no-gift
-  image_gift (machine.context-of k K) = clocks.context-of k (tops K)
-  image_gift (machine.frame-of k K) = clocks.frame-of k (shown K)
+  image_gift machine.no_gift = clocks.no_gift
+  image_gift (machine.context_of k K) = clocks.context_of k (tops K)
+  image_gift (machine.frame_of k K) = clocks.frame_of k (shown K)
 
   -- the machine's world with what each set shows in its place
   abbrev pub image : World V → ClockWorld V
@@ -85,17 +85,17 @@ module _ {V : Type 0} where
     image_context k (seen_at t) = go (w.given t)
       where
         go : (g : Gift V) → clock_context_in k (image_gift g) ≡ map_option tops (context_in k g)
-        go machine.no-gift = refl
-        go (machine.context-of j K) = sym (cond_map (map_option tops) (eqb j k) (Some K) None)
-        go (machine.frame-of j K) = refl
+        go machine.no_gift = refl
+        go (machine.context_of j K) = sym (cond_map (map_option tops) (eqb j k) (Some K) None)
+        go (machine.frame_of j K) = refl
 
     image_frame : (k t : ℕ) → clock_frame_in k (image_gift (w.given t)) ≡ map_option shown (frame_in k (w.given t))
     image_frame k t = go (w.given t)
       where
         go : (g : Gift V) → clock_frame_in k (image_gift g) ≡ map_option shown (frame_in k g)
-        go machine.no-gift = refl
-        go (machine.context-of j K) = refl
-        go (machine.frame-of j K) = sym (cond_map (map_option shown) (eqb j k) (Some K) None)
+        go machine.no_gift = refl
+        go (machine.context_of j K) = refl
+        go (machine.frame_of j K) = sym (cond_map (map_option shown) (eqb j k) (Some K) None)
 
     image_with : {A : Type 0} (f : Events V → A) (o : Option (Events V)) (p : Option A) (d : A → ClockStep V) (m : Events V → Step V) → p ≡ map_option f o → ((C : Events V) → o ≡ Some C → d (f C) ≡ image_step (m C)) → with_named (image w) p d ≡ image_step (with_set w o m)
     image_with f None p d m e each = ap (λ q. with_named (image w) q d) e
@@ -114,7 +114,7 @@ module _ {V : Type 0} where
     sound_of s k = (good.inv.knows s k).sound
 
     context_sound : (k : ℕ) (x : Context) (C : Events V) → context_for w k x ≡ Some C → SoundSet (H k) C
-    context_sound k x C c = (context_fits H good.all-events w.calls w good.inv k x C c).sound
+    context_sound k x C c = (context_fits H good.all_events w.calls w good.inv k x C c).sound
 
     putting : (s k : ℕ) (x : Context) (v : V) → named s k ≡ true → ltb (w.life s) 4 ≡ true → (C : Events V) → context_for w k x ≡ Some C
         → settle (image w) s k (clock-put (own w s) (tops C) v (shown (w.known s k))) ≡ image_step (put_at w s k C v)
@@ -144,8 +144,8 @@ module _ {V : Type 0} where
     unfolding clock_step step
     image_of_step (get s k) =
         image_when w (named s k) _ _ misnamed (λ e.
-        ap₂ (λ C xs. clock_to (clock_hand_out (image w) (clocks.context-of k C)) (got xs (context_frame k C))) (context_is (w.known s k)) (siblings_is (H k) (good.inv.full k) (w.known s k) (sound_of s k))
-        ∙ ap (λ D. clock_to D (got (listing (w.known s k)) (context_frame k (tops (w.known s k))))) (image_hand_out w (machine.context-of k (w.known s k))))
+        ap₂ (λ C xs. clock_to (clock_hand_out (image w) (clocks.context_of k C)) (got xs (context_frame k C))) (context_is (w.known s k)) (siblings_is (H k) (good.inv.full k) (w.known s k) (sound_of s k))
+        ∙ ap (λ D. clock_to D (got (listing (w.known s k)) (context_frame k (tops (w.known s k))))) (image_hand_out w (machine.context_of k (w.known s k))))
     image_of_step (put s k x v) = go (named s k) refl (ltb (w.life s) 4) refl
       where
         go : (a : Bool) → named s k ≡ a → (b : Bool) → ltb (w.life s) 4 ≡ b
@@ -157,10 +157,10 @@ module _ {V : Type 0} where
     image_of_step (delete s k x) =
         image_when w (named s k) _ _ misnamed (λ e. image_with w tops (context_for w k x) (clock_context_for (image w) k x) _ _ (image_context w k x) (λ C c.
         ap (λ D. clock_to D done) (ap (clock_learn (image w) s k) (delete_is (H k) (good.inv.full k) w.calls (w.known s k) C (sound_of s k) (context_sound k x C c)) ∙ image_learn w s k _)))
-    image_of_step (send s k) = image_when w (named s k) _ _ misnamed (λ e. ap (λ D. clock_to D (sent (frame_bytes bytes_of k (w.known s k)))) (image_hand_out w (machine.frame-of k (w.known s k))))
+    image_of_step (send s k) = image_when w (named s k) _ _ misnamed (λ e. ap (λ D. clock_to D (sent (frame_bytes bytes_of k (w.known s k)))) (image_hand_out w (machine.frame_of k (w.known s k))))
     image_of_step (deliver s k t) =
         image_when w (named s k) _ _ misnamed (λ e. image_with w shown (frame_in k (w.given t)) _ _ _ (image_frame w k t) (λ F c.
-        ap (λ D. clock_to D done) (ap (clock_learn (image w) s k) (deliver_is (H k) (good.inv.full k) (w.known s k) F (sound_of s k) (frame_fits H good.all-events w.calls w good.inv k t F c).sound) ∙ image_learn w s k _)))
+        ap (λ D. clock_to D done) (ap (clock_learn (image w) s k) (deliver_is (H k) (good.inv.full k) (w.known s k) F (sound_of s k) (frame_fits H good.all_events w.calls w good.inv k t F c).sound) ∙ image_learn w s k _)))
     image_of_step (save s k r left) =
         image_when w (named s k && spendable r (w.owed s k)) _ _ misnamed (λ e.
         image_when w (leb (length (frame_bytes bytes_of k (w.known s k)) + 4) left) _ _ (refused_by MediumFull) (λ l.

@@ -203,7 +203,7 @@ refines V =
             sent_bytes = sent_bytes bytes_of calls;
             equal_bytes = λ t u k K L p q same.
                 sent_bytes bytes_of calls t k K p
-                ∙ ap (λ S. sent (frame bytes_of k S)) ((sane (after bytes_of start calls) good).same-shown k K L (was_sent t p) (was_sent u q) same)
+                ∙ ap (λ S. sent (frame bytes_of k S)) ((sane (after bytes_of start calls) good).same_shown k K L (was_sent t p) (was_sent u q) same)
                 ∙ sym (sent_bytes bytes_of calls u k L q);
           };
       nothing_forgotten = λ bytes_of. nothing_forgotten bytes_of;

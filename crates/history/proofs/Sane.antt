@@ -40,16 +40,16 @@ module _ {V : Type 0} (H : ℕ → List (Write V)) (E : ℕ → Event V) (n : �
             cc;
         same_shown = λ k K L p q m. same_members (H k) (inv.full k) K L (fit_in_play k K p).sound (fit_in_play k L q).sound m.0 m.1;
         all_listed = λ k K p. listed_held (H k) K (fit_in_play k K p).sound;
-        own-top = λ s k K alive p. omega (arith, inv.mine s k alive, (fit_in_play k K p).sound.within (own w s));
+        own_top = λ s k K alive p. omega (arith, inv.mine s k alive, (fit_in_play k K p).sound.within (own w s));
         unwritten = λ s l k K after under p. omega (arith, inv.later s k l after under, (fit_in_play k K p).sound.within (4 * s + l));
         kept_known = inv.within;
         unsaved = inv.unsaved;
-        last_life = inv.last-life;
+        last_life = inv.last_life;
         legal = λ k K p. legal_shown (H k) (inv.full k) K (fit_in_play k K p).sound (inv.bounded k);
       }
 
 pub sane : {V : Type 0} (w : World V) → Good w → Sane w
-sane w good = sane_in good.all-writes good.all-events w.calls w good.inv
+sane w good = sane_in good.all-writes good.all_events w.calls w good.inv
 
 -- ---- the same of states: why no frame, context or waking is refused for its own column
 
@@ -63,12 +63,12 @@ module _ {V : Type 0} (w : World V) (good : Good w) (s k : ℕ) (seat : s < 6) w
 
   module _ (alive : w.life s < 4) (K : Events V) (p : InPlay w k K) where
     pub frame_allowed : top_in (w.life s) K ≤ top_in (w.life s) (w.known s k)
-    frame_allowed = omega (arith, top_is (w.life s) K alive, top_is (w.life s) (w.known s k) alive, (sane w good).own-top s k K alive p)
+    frame_allowed = omega (arith, top_is (w.life s) K alive, top_is (w.life s) (w.known s k) alive, (sane w good).own_top s k K alive p)
 
     pub context_allowed : get_or (tops K) (own w s) 0 ≤ top_in (w.life s) (w.known s k)
     context_allowed =
         let inside : own w s < columns = omega arith in
-        omega (arith, at_column (λ c. highest c (writes K)) (own w s) 0 inside, top_is (w.life s) (w.known s k) alive, (sane w good).own-top s k K alive p)
+        omega (arith, at_column (λ c. highest c (writes K)) (own w s) 0 inside, top_is (w.life s) (w.known s k) alive, (sane w good).own_top s k K alive p)
 
   -- what was saved has nothing in the column of the next life
   pub waking_allowed : next_life (w.life s) < 4 → top_in (next_life (w.life s)) (w.kept s k) ≡ 0

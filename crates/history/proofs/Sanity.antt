@@ -107,7 +107,7 @@ module _ {V : Type 0} where
     sibling_is = ap (λ y. record { dot = y; value = v }) put_done.dot
 
     c_sound : SoundSet H C
-    c_sound = (context_fits good.all-writes good.all-events w.calls w good.inv k x C put_done.seen).sound
+    c_sound = (context_fits good.all-writes good.all_events w.calls w good.inv k x C put_done.seen).sound
 
     k_sound : SoundSet H K
     k_sound = (good.inv.knows s k).sound
@@ -287,7 +287,7 @@ exchange_agrees_lem V bytes_of calls s t k p q = ⊎_elim (λ e. ap (λ r. shown
         let b : end.known t k ≡ w.known t k ++ w.known s k = ap (λ u. u.known t k) end_is ∙ knows_t bytes_of w s t k p q d in
         let good = good-after bytes_of start good_start (calls ++ exchange s t k (length calls)) in
         ap shown a
-        ∙ (sane end good).same-shown k _ _ (is_known s a) (is_known t b) (within_swap (w.known s k) (w.known t k), within_swap (w.known t k) (w.known s k))
+        ∙ (sane end good).same_shown k _ _ (is_known s a) (is_known t b) (within_swap (w.known s k) (w.known t k), within_swap (w.known t k) (w.known s k))
         ∙ sym (ap shown b)
 
 pub last_counter_refused_lem : (V : Type 0) → LastCounterRefused V

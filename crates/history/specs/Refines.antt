@@ -33,7 +33,7 @@ pub record Sane {V : Type 0} (w : World V) : Type 0 where
   -- what is listed is what is held
   pub all_listed : (k : ℕ) (K : Events V) → InPlay w k K → SameMembers (in_order (held K)) (held K)
   -- nothing that can be delivered or seen has a higher counter in a seat's own column than the seat knows
-  pub own-top : (s k : ℕ) (K : Events V) → w.life s < 4 → InPlay w k K → highest (own w s) (writes K) ≤ highest (own w s) (writes (w.known s k))
+  pub own_top : (s k : ℕ) (K : Events V) → w.life s < 4 → InPlay w k K → highest (own w s) (writes K) ≤ highest (own w s) (writes (w.known s k))
   -- and nothing has a write in the column of a life to come
   pub unwritten : (s l k : ℕ) (K : Events V) → w.life s < l → l < 4 → InPlay w k K → highest (4 * s + l) (writes K) ≡ 0
   -- what is saved is known

@@ -110,7 +110,7 @@ module _ (bs : List ℕ) (key : ℕ) (frame : List ℕ) where
       go (Err x) is = let z : left ≡ 0 = ap (left_of (length bs)) is in absurd (omega (arith, b.room))
       go (Ok es) is =
           let l : left ≡ length bs - used es = ap (left_of (length bs)) is in
-          saved_longer bs es entry typed is (record { low_key = b.low-key; some = b.some; few = b.few }) (omega (arith, b.room)) end (omega (arith, b.room)) ok
+          saved_longer bs es entry typed is (record { low_key = b.low_key; some = b.some; few = b.few }) (omega (arith, b.room)) end (omega (arith, b.room)) ok
 
   pub saved : Bytes bs → Ok tt ≡ admitted key (length frame) left → (cs : List ℕ) (end : ℕ) → end ≡ length bs - left → cs ≡ appended bs end entry → SavedAs (Ok tt) cs × (cs ≡ saving bs key frame)
   saved typed ok cs end there is =

@@ -86,7 +86,7 @@ module _ (bs : List ℕ) (key p : ℕ) (newest : Option (List ℕ)) (far : Walki
       ∙ ap (walked key p newest) (all-step p (drop p bs) t.told t.is)
       ∙ walked_front key p newest e (all_from t.told.next t.told.rest)
       ∙ ap (λ m. walked key m (cond (eqb key e.key) (Some e.frame) newest) (all_from t.told.next t.told.rest)) here
-      ∙ ap (λ m. walked key q (cond (eqb key m) (Some e.frame) newest) (all_from t.told.next t.told.rest)) t.key-is
+      ∙ ap (λ m. walked key q (cond (eqb key m) (Some e.frame) newest) (all_from t.told.next t.told.rest)) t.key_is
       ∙ ap (λ f. walked key q (cond (eqb key k) (Some f) newest) (all_from t.told.next t.told.rest)) t.frame_is
       ∙ ap (λ m. walked key q (cond (eqb key k) (Some frame) newest) (all_from m t.told.rest)) next
       ∙ ap (λ xs. walked key q (cond (eqb key k) (Some frame) newest) (all_from q xs)) rest

@@ -19,6 +19,6 @@ returns g _ = λ a b c p q r. record {
   last_used = refl;
   fourth_life = refl;
   mute = refl;
-  no_writes-frame = λ w value_of. refl;
+  no_writes_frame = λ w value_of. refl;
   no_such_key = λ w value_of. refl;
 }

@@ -24,6 +24,6 @@ returns-in-Ok g c =
     let long = g.met.V.Value.fills v wrote.valid in
     let back = g.met.V.Value.back v wrote.valid in
     record {
-      answer = come_back g.row.V-Value.width memory c.write-value.new.out bs g.row.V-Value.value_of v c.read-value.result (leb g.row.V-Value.width (length memory)) wrote.answer wrote.memory long back c.read-value.ensures.answer;
+      answer = come_back g.row.V-Value.width memory c.write_value.new.out bs g.row.V-Value.value_of v c.read_value.result (leb g.row.V-Value.width (length memory)) wrote.answer wrote.memory long back c.read_value.ensures.answer;
       memory = wrote.memory;
     }

@@ -17,9 +17,9 @@ loop-c-preserved g c =
       (λ cells.
           let a = get_or-state rows cells i no_writes lt in
           let t = c.top.ensures.value in
-          let h = discard_is (get_or rows i no_row) c.discard-row.result c.top.result (drop (4 * i) cells) c.discard-row.ensures.top c.discard-row.ensures.count in
+          let h = discard_is (get_or rows i no_row) c.discard_row.result c.top.result (drop (4 * i) cells) c.discard_row.ensures.top c.discard_row.ensures.count in
           upto_more discard_column i (state c.args.rows.now cells) tops no_writes 0 (state rows cells) _ _ (omega (arith, length-state c.args.rows.now cells)) (omega (arith, c.args.context.now.wide))
-          (c.loop-c.invariant.0 cells) (cc) (state-row rows cells i c.discard-row.result lt long)),
+          (c.loop-c.invariant.0 cells) (cc) (state-row rows cells i c.discard_row.result lt long)),
       drop-set-lt 24 rows i _ lt ∙ c.loop-c.invariant.1,
     )
 

@@ -15,15 +15,15 @@ loop-c-preserved g c =
     let lt : i < 24 = omega arith in
     let rows = c.loop-c.rows in
     let cells = c.loop-c.cells in
-    let ys = c.merge-column.new.cells in
+    let ys = c.merge_column.new.cells in
     let len : length ys ≡ 4 = omega arith in
     let S = state c.args.rows.now c.args.cells.now in
     let T = state c.args.others.now c.args.values.now in
     let a = read-column rows cells i k no_writes lt four in
     let b = read-column c.args.others.now c.args.values.now i k no_writes lt four in
-    let h = c.merge-column.ensures in (
+    let h = c.merge_column.ensures in (
       upto_more merge_column i S T no_writes no_writes (state rows cells) _ _ (omega (arith, length-state c.args.rows.now c.args.cells.now)) (omega (arith, length-state c.args.others.now c.args.values.now))
-          c.loop-c.invariant.0 (cc) (state-put rows cells i c.merge-column.result lt (omega arith) k ys four len (omega arith)),
+          c.loop-c.invariant.0 (cc) (state-put rows cells i c.merge_column.result lt (omega arith) k ys four len (omega arith)),
       drop-set-lt 24 rows i _ lt ∙ c.loop-c.invariant.1,
       drop-put_mid (4 * i) k cells ys 96 (omega arith) (omega arith) (omega arith) ∙ c.loop-c.invariant.2,
     )

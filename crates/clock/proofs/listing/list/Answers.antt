@@ -10,7 +10,7 @@ pub returns : goal.returns
 returns g c =
     let all = siblings (state c.args.rows.now c.args.cells.now) in
     let out = c.args.out.now in
-    let n = c.sibling-count.ensures c.args.cells.now (c.if-not-has-room.ensures.enough tt).1 in
-    let e : (roomy c.args.rows.now c.args.cells.now && leb (length all) (length out)) ≡ true = and_from _ _ (sym c.if-not-has-room.ensures.value) (le-leb (length all) (length out) (omega arith)) in
+    let n = c.sibling_count.ensures c.args.cells.now (c.if-not-has_room.ensures.enough tt).1 in
+    let e : (roomy c.args.rows.now c.args.cells.now && leb (length all) (length out)) ≡ true = and_from _ _ (sym c.if-not-has_room.ensures.value) (le-leb (length all) (length out) (omega arith)) in
     let o = cond-true (roomy c.args.rows.now c.args.cells.now && leb (length all) (length out)) (accepted (length all) (all ++ drop (length all) out)) (refused ShortMemory) e in
-    record { answer = ap Ok c.list-columns.ensures.count ∙ sym (ap answer o); out = c.list-columns.ensures.out ∙ sym (ap (after out) o) }
+    record { answer = ap Ok c.list_columns.ensures.count ∙ sym (ap answer o); out = c.list_columns.ensures.out ∙ sym (ap (after out) o) }

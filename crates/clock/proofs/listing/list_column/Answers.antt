@@ -7,8 +7,8 @@ use Rattle.clock.proofs.listing.list_column.Goals as goal
 pub loop-i-init : goal.loop-i-init
 loop-i-init g c = paste_none c.args.out.now c.args.at (dotted c.args.c c.of-column.result.top (take c.of-column.result.count c.args.cells.now))
 
-pub offset-bounds-out-at : goal.offset-bounds-out-at
-offset-bounds-out-at g c = search rules
+pub offset_bounds-out-at : goal.offset_bounds-out-at
+offset_bounds-out-at g c = search rules
 
 pub loop-i-preserved : goal.loop-i-preserved
 loop-i-preserved g c =

@@ -7,5 +7,5 @@ returns-then-b-a g c = merge-left c.args.mine c.args.theirs c.row.result c.args.
 
 pub returns : goal.returns
 returns g c =
-    rw c.copy-from-slice.ensures.after
+    rw c.copy_from_slice.ensures.after
     (merge_right c.args.mine c.args.theirs c.row-2.result c.args.cells.now c.args.values.now (omega arith) (omega arith) (omega arith) (omega arith))

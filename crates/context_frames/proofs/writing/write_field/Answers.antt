@@ -7,5 +7,5 @@ returns-then-top-eq0 c = let r = nothing_written c.args.c c.args.top c.args.at c
 
 pub returns : goal.returns
 returns c =
-    let r = top_written c.args.c c.args.top c.args.at (c.args.at + 8 - c.args.at) c.args.out.now c.write-top.new.out c.if-top-eq0.false (omega arith) c.requires c.write-top.ensures in
+    let r = top_written c.args.c c.args.top c.args.at (c.args.at + 8 - c.args.at) c.args.out.now c.write_top.new.out c.if-top-eq0.false (omega arith) c.requires c.write_top.ensures in
     record { at = r.0; out = r.1 }

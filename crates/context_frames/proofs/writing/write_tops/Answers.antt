@@ -5,8 +5,8 @@ use Rattle.context_frames.specs.Laying.{tops_laid}
 use Rattle.context_frames.proofs.Lays.{all-tops, length-next, next-top, top_fits, top_laid}
 use Rattle.context_frames.proofs.writing.write_tops.Goals as goal
 
-pub write-field-at-requires : goal.write-field-at-requires
-write-field-at-requires c = omega (arith, top_fits c.args.context.now.tops c.loop-c.c c.loop-c.at (omega (arith, c.args.context.now.wide)) c.loop-c.invariant.0)
+pub write_field-at-requires : goal.write_field-at-requires
+write_field-at-requires c = omega (arith, top_fits c.args.context.now.tops c.loop-c.c c.loop-c.at (omega (arith, c.args.context.now.wide)) c.loop-c.invariant.0)
 
 pub loop-c-preserved : goal.loop-c-preserved
 loop-c-preserved c =
@@ -16,12 +16,12 @@ loop-c-preserved c =
     let P = take 4 out in
     let F = tops_laid (take i C) in
     let lt : i + 1 ≤ length C = omega (arith, c.args.context.now.wide) in
-    let ends = c.write-field-at.ensures.at in
+    let ends = c.write_field-at.ensures.at in
     let tf = top_fits C i c.loop-c.at (omega arith) c.loop-c.invariant.0 in
     let four = length-take-le 4 out (omega (arith, c.requires)) in
-    let fb = field-behind (P ++ F) c.loop-c.out out c.write-field-at.new.out (top_laid i (get_or C i 0)) c.loop-c.at c.write-field-at.result (omega (arith, length-append P F)) c.loop-c.invariant.1 c.write-field-at.ensures.out (omega arith) (omega arith) c.write-field-at.auto.out in
+    let fb = field-behind (P ++ F) c.loop-c.out out c.write_field-at.new.out (top_laid i (get_or C i 0)) c.loop-c.at c.write_field-at.result (omega (arith, length-append P F)) c.loop-c.invariant.1 c.write_field-at.ensures.out (omega arith) (omega arith) c.write_field-at.auto.out in
     let e = append_assoc P F _ ∙ ap (λ x. P ++ x) (sym (next-top C i (omega arith))) in
-    (ends ∙ length-next C i c.loop-c.at _ (omega arith) c.loop-c.invariant.0 refl, fb.1 ∙ ap (λ x. x ++ drop c.write-field-at.result out) e)
+    (ends ∙ length-next C i c.loop-c.at _ (omega arith) c.loop-c.invariant.0 refl, fb.1 ∙ ap (λ x. x ++ drop c.write_field-at.result out) e)
 
 pub returns : goal.returns
 returns c =

@@ -16,5 +16,5 @@ returns g c =
     let v = g.row.V-Value in
     let n = c.args.count in
     let vs = values_of v.width v.value_of n c.args.values.now in
-    rw c.read-values.ensures
+    rw c.read_values.ensures
     (field_right c.args.mine c.row-2.result c.args.top n c.args.cells.now vs c.requires.few c.requires.within c.requires.low (length_values v.width v.value_of n c.args.values.now) _ (omega arith) (omega arith) (omega arith) (omega arith))

@@ -23,12 +23,12 @@ unreachable-requires g c =
     let h = c.in-Err.ensures.value ∙ ap (λ d. column_seen w at (drop at d)) c.walk.invariant.0 in
     never_refused w g.row.V-Value.value_of frame c.args.rows.now c.args.cells.now wide at _ _ c.walk.invariant.2 c.in-Err.field-0 (search rules) h
 
-pub merge-field-requires : goal.merge-field-requires
-merge-field-requires g c =
+pub merge_field-requires : goal.merge_field-requires
+merge_field-requires g c =
     let at = c.walk.cursor.1.0 in
     let f = (column-found g.row.V-Value.width at (drop at c.args.frame.now) _ _ _ _ _ (here_seen g.row.V-Value.width at _ c.args.frame.now _ _ c.in-Column.is c.in-Ok.ensures.value c.walk.invariant.0)).1 in
     let low = f.low in
-    record { cells = simp (length-take, length-drop) (omega arith); few = f.few; within = f.within; low = f.top-low; values = f.long }
+    record { cells = simp (length-take, length-drop) (omega arith); few = f.few; within = f.within; low = f.top_low; values = f.long }
 
 pub bounds-rows-c : goal.bounds-rows-c
 bounds-rows-c g c =
@@ -48,7 +48,7 @@ walk-preserved g c =
     let same = c.in-Ok.ensures.same ∙ c.walk.invariant.0 in
     let moved = c.in-Ok.ensures.moved ∙ ap (λ x. at + span (shown x)) f.is in
     let h = here_seen w at _ frame _ _ f.is c.in-Ok.ensures.value c.walk.invariant.0 in
-    let next = onward w g.row.V-Value.value_of frame c.args.rows.now c.args.cells.now wide at c.walk.rows c.walk.cells c.walk.invariant.2 j f.count f.top f.values.now f.at h c.merge-field.result k c.merge-field.new.cells (omega arith) (omega arith) (omega arith) (omega arith) c.merge-field.ensures in
+    let next = onward w g.row.V-Value.value_of frame c.args.rows.now c.args.cells.now wide at c.walk.rows c.walk.cells c.walk.invariant.2 j f.count f.top f.values.now f.at h c.merge_field.result k c.merge_field.new.cells (omega arith) (omega arith) (omega arith) (omega arith) c.merge_field.ensures in
     (same, omega (arith, c.column.new.self.within, ap length same), rw moved next)
 
 pub returns : goal.returns
@@ -57,4 +57,4 @@ returns g c =
     let frame = c.args.frame.now in
     let wide = walk_wide (column_told w g.row.V-Value.value_of) no_writes (λ p. refl) 24 0 4 (drop 4 frame) _ (starts w g.row.V-Value.value_of frame c.requires.frame).1 in
     let mid = c.walk.invariant.2 in
-    record { state = finished w g.row.V-Value.value_of frame c.args.rows.now c.args.cells.now wide _ _ _ mid (search rules); rows = mid.rows-beyond; cells = mid.cells-beyond }
+    record { state = finished w g.row.V-Value.value_of frame c.args.rows.now c.args.cells.now wide _ _ _ mid (search rules); rows = mid.rows_beyond; cells = mid.cells_beyond }

@@ -14,7 +14,7 @@ returns g c =
     let col = c.args.c in
     let a = c.args.a in
     let out = c.args.out.now in
-    let o = c.write-column-head.new.out in
+    let o = c.write_column_head.new.out in
     let n : ℕ = a.count in
     let body : ℕ = 6 + c.width.result * n in
     let k : ℕ = (3 + body) - 9 in
@@ -23,13 +23,13 @@ returns g c =
     let few = c.requires.values in
     let w_is : c.width.result * n ≡ v.width * n = ap (λ m. m * n) c.width.ensures in
     let k_is : k ≡ v.width * n = omega arith in
-    let long : length J ≡ v.width * length xs = length-joined code xs c.write-values.ensures.valid in
+    let long : length J ≡ v.width * length xs = length-joined code xs c.write_values.ensures.valid in
     let n_is : v.width * length xs ≡ v.width * n = ap (λ m. v.width * m) few in
-    let lm = length_mid o 9 k (v.width * n) k_is (omega (arith, c.write-column-head.ensures, c.write-column-head.auto.out)) in
-    let wrote = c.write-values.ensures.after ∙ ap (λ m. J ++ drop m (take k (drop 9 o))) n_is in
-    let wm = wrote_more H o out c.write-values.new.out J (take k (drop 9 o)) 9 k (v.width * n) refl c.write-column-head.ensures k_is wrote lm in
+    let lm = length_mid o 9 k (v.width * n) k_is (omega (arith, c.write_column_head.ensures, c.write_column_head.auto.out)) in
+    let wrote = c.write_values.ensures.after ∙ ap (λ m. J ++ drop m (take k (drop 9 o))) n_is in
+    let wm = wrote_more H o out c.write_values.new.out J (take k (drop 9 o)) 9 k (v.width * n) refl c.write_column_head.ensures k_is wrote lm in
     let size : body ≡ length (col ∷ length xs ∷ (to_bytes 4 a.top ++ J)) = omega arith in
     record {
       after = wm ∙ ap (λ m. ((2 ∷ (to_bytes 2 m ++ (col ∷ n ∷ to_bytes 4 a.top))) ++ J) ++ drop (9 + v.width * n) out) size ∙ ap (λ m. ((2 ∷ (to_bytes 2 (length (col ∷ length xs ∷ (to_bytes 4 a.top ++ J))) ++ (col ∷ m ∷ to_bytes 4 a.top))) ++ J) ++ drop (9 + v.width * n) out) (sym few);
-      valid = c.write-values.ensures.valid;
+      valid = c.write_values.ensures.valid;
     }

@@ -10,8 +10,8 @@ use Rattle.formats.proofs.Laying.{field-behind}
 use Rattle.frames.proofs.Writes.{all-fields, next-fields, size-all, size_fits, size_more}
 use Rattle.frames.proofs.writing.write_columns.Goals as goal
 
-pub write-field-at-requires : goal.write-field-at-requires
-write-field-at-requires g c =
+pub write_field-at-requires : goal.write_field-at-requires
+write_field-at-requires g c =
     let f = size_fits g.row.V-Value.width c.args.rows.now c.args.cells.now c.loop-c.c c.loop-c.at _ c.loop-c-test.true c.requires.cells c.loop-c.invariant.0 refl in
     record { cells = simp (length-take, length-drop) (omega arith); room = omega arith }
 
@@ -28,14 +28,14 @@ loop-c-preserved g c =
     let out = c.args.out.now in
     let P = take 4 out in
     let F = rising_fields unwritten (column_field v.bytes_of) 0 (take i S) in
-    let ends = c.write-field-at.ensures.at in
+    let ends = c.write_field-at.ensures.at in
     let sm = size_more v.width rows cells i c.loop-c.at _ lt c.requires.cells c.loop-c.invariant.0 refl in
     let sf = size_fits v.width rows cells i c.loop-c.at _ lt c.requires.cells c.loop-c.invariant.0 refl in
     let nf = next-fields v.bytes_of rows cells i k lt four in
-    let fb = field-behind (P ++ F) c.loop-c.out out c.write-field-at.new.out _ c.loop-c.at c.write-field-at.result c.loop-c.invariant.1 c.loop-c.invariant.2 c.write-field-at.ensures.out (omega arith) (omega arith) c.write-field-at.auto.out in
+    let fb = field-behind (P ++ F) c.loop-c.out out c.write_field-at.new.out _ c.loop-c.at c.write_field-at.result c.loop-c.invariant.1 c.loop-c.invariant.2 c.write_field-at.ensures.out (omega arith) (omega arith) c.write_field-at.auto.out in
     let e = append_assoc P F _ ∙ ap (λ x. P ++ x) (sym nf) in
-    let here : All v.valid (column_at S i).values = subst (λ a. All v.valid a.values) (read-column rows cells i k no_writes lt four) c.write-field-at.ensures.valid in
-    (ends ∙ sm, ap length (sym e) ∙ fb.0, fb.1 ∙ ap (λ x. x ++ drop c.write-field-at.result out) e, below_more _ _ c.loop-c.invariant.3 here)
+    let here : All v.valid (column_at S i).values = subst (λ a. All v.valid a.values) (read-column rows cells i k no_writes lt four) c.write_field-at.ensures.valid in
+    (ends ∙ sm, ap length (sym e) ∙ fb.0, fb.1 ∙ ap (λ x. x ++ drop c.write_field-at.result out) e, below_more _ _ c.loop-c.invariant.3 here)
 
 pub returns : goal.returns
 returns g c =

@@ -28,9 +28,9 @@ returns g c =
     let wn : 9 + v.width * n ≡ 9 + v.width * count_of row = ap (λ m. 9 + v.width * m) c.of-a.ensures.count in
     let field = column_field v.bytes_of c.args.c (column row cells) in
     let same = ap (λ t. column_field v.bytes_of c.args.c (record { top = t; values = take (n - 0) cells })) c.of-a.ensures.top ∙ ap (λ m. column_field v.bytes_of c.args.c (record { top = top_of row; values = take m cells })) zero in
-    let wrote = c.write-column.ensures.after ∙ ap (λ f. f ++ drop (9 + v.width * n) (take k (drop at out))) same ∙ ap (λ m. field ++ drop m (take k (drop at out))) wn in
+    let wrote = c.write_column.ensures.after ∙ ap (λ f. f ++ drop (9 + v.width * n) (take k (drop at out))) same ∙ ap (λ m. field ++ drop m (take k (drop at out))) wn in
     record {
       at = omega (arith, size, w_is);
-      out = field_written row out c.write-column.new.out field at k (9 + v.width * count_of row) (at + (9 + c.width.result * n)) some (omega arith) (omega (arith, size, c.requires.room)) (omega arith) wrote;
-      valid = rw (← zero) c.write-column.ensures.valid;
+      out = field_written row out c.write_column.new.out field at k (9 + v.width * count_of row) (at + (9 + c.width.result * n)) some (omega arith) (omega (arith, size, c.requires.room)) (omega arith) wrote;
+      valid = rw (← zero) c.write_column.ensures.valid;
     }

@@ -6,8 +6,8 @@ use Rattle.frames.proofs.ValuesRead.{row_fits}
 use Rattle.frames.proofs.Writes.{row_more, joined_take_more, length_mid, wrote_more}
 use Rattle.frames.proofs.writing.write_values.Goals as goal
 
-pub slice-bounds-write-to-end : goal.slice-bounds-write-to-end
-slice-bounds-write-to-end g c = omega (arith, row_fits g.row.V-Value.width c.loop-v.v-index (length c.args.values.now) c.loop-v-test.true)
+pub slice_bounds-write_to-end : goal.slice_bounds-write_to-end
+slice_bounds-write_to-end g c = omega (arith, row_fits g.row.V-Value.width c.loop-v.v-index (length c.args.values.now) c.loop-v-test.true)
 
 pub loop-v-preserved : goal.loop-v-preserved
 loop-v-preserved g c =
@@ -21,14 +21,14 @@ loop-v-preserved g c =
     let x = c.v-item.result in
     let fit : at + w ≤ length c.loop-v.out = omega (arith, row_fits code.width i (length xs) c.loop-v-test.true) in
     let jm = joined_take_more code.bytes_of xs i x c.loop-v-test.true c.v-item.is in
-    let long : length (code.bytes_of x) ≡ code.width = g.met.V.Value.fills x c.write-to.ensures.valid in
+    let long : length (code.bytes_of x) ≡ code.width = g.met.V.Value.fills x c.write_to.ensures.valid in
     let k : (at + w) - at ≡ code.width = omega arith in
     let mid = take ((at + w) - at) (drop at c.loop-v.out) in
     let lm = length_mid c.loop-v.out at ((at + w) - at) code.width k (omega arith) in
-    let wm = wrote_more J c.loop-v.out out c.write-to.new.out (code.bytes_of x) mid at ((at + w) - at) code.width c.loop-v.invariant.2 c.loop-v.invariant.3 k c.write-to.ensures.memory lm in
+    let wm = wrote_more J c.loop-v.out out c.write_to.new.out (code.bytes_of x) mid at ((at + w) - at) code.width c.loop-v.invariant.2 c.loop-v.invariant.3 k c.write_to.ensures.memory lm in
     let we = c.width-w.ensures in
     let tm = take_more xs i x c.loop-v-test.true ∙ ap (λ y. take i xs ++ y ∷ []) (sym c.v-item.is) in
-    let all : All code.valid (take (i + 1) xs) = rw tm (All-append code.valid (take i xs) (x ∷ []) c.loop-v.invariant.4 (c.write-to.ensures.valid, tt)) in
+    let all : All code.valid (take (i + 1) xs) = rw tm (All-append code.valid (take i xs) (x ∷ []) c.loop-v.invariant.4 (c.write_to.ensures.valid, tt)) in
     (omega arith, omega (arith, row_more code.width i), ap length jm ∙ length-append J (code.bytes_of x) ∙ omega arith, (cc), all)
 
 pub returns : goal.returns

@@ -6,4 +6,4 @@ use Rattle.journal.proofs.appending.append.Goals as goal
 pub returns : goal.returns
 returns c =
     let f = c.args.frame.now in
-    closing c.write-entry.new.out (entry_field (record { key = c.args.key; frame = f })) (drop (length f + 4) c.args.out.now) c.close.new.out (length f + 4) c.write-entry.ensures (omega arith) c.close.ensures
+    closing c.write_entry.new.out (entry_field (record { key = c.args.key; frame = f })) (drop (length f + 4) c.args.out.now) c.close.new.out (length f + 4) c.write_entry.ensures (omega arith) c.close.ensures

@@ -8,20 +8,20 @@ use Rattle.journal.proofs.saving.save_in.Goals as goal
 
 pub append-requires : goal.append-requires
 append-requires c =
-    let b = bounds c.args.key (length c.args.frame.now) c.left-in-left.result c.in-Ok.ensures in
-    let room : length c.args.frame.now + 4 ≤ c.left-in-left.result = b.room in
-    let within : c.left-in-left.result ≤ length c.args.bytes.now = c.left-in-left.ensures.within in
+    let b = bounds c.args.key (length c.args.frame.now) c.left_in-left.result c.in-Ok.ensures in
+    let room : length c.args.frame.now + 4 ≤ c.left_in-left.result = b.room in
+    let within : c.left_in-left.result ≤ length c.args.bytes.now = c.left_in-left.ensures.within in
     record { room = simp (length-take, length-drop) (omega arith); few = b.few }
 
 pub returns-in-Err : goal.returns-in-Err
 returns-in-Err c =
-    let u = unsaved c.args.bytes.now c.args.key c.args.frame.now c.in-Err.why (c.in-Err.ensures ∙ ap (admitted c.args.key (length c.args.frame.now)) c.left-in-left.ensures.value) in
+    let u = unsaved c.args.bytes.now c.args.key c.args.frame.now c.in-Err.why (c.in-Err.ensures ∙ ap (admitted c.args.key (length c.args.frame.now)) c.left_in-left.ensures.value) in
     record { saved = u.0; bytes = u.1 }
 
 pub returns-in-Ok : goal.returns-in-Ok
 returns-in-Ok c =
     let bs = c.args.bytes.now in
-    let end = length bs - c.left-in-left.result in
-    let ok = c.in-Ok.ensures ∙ ap (admitted c.args.key (length c.args.frame.now)) c.left-in-left.ensures.value in
-    let s = saved bs c.args.key c.args.frame.now c.left-in-left.ensures.bytes ok _ end (ap (λ n. length bs - n) c.left-in-left.ensures.value) (put-appended bs c.append.new.out end (record { key = c.args.key; frame = c.args.frame.now }) c.append.ensures) in
+    let end = length bs - c.left_in-left.result in
+    let ok = c.in-Ok.ensures ∙ ap (admitted c.args.key (length c.args.frame.now)) c.left_in-left.ensures.value in
+    let s = saved bs c.args.key c.args.frame.now c.left_in-left.ensures.bytes ok _ end (ap (λ n. length bs - n) c.left_in-left.ensures.value) (put-appended bs c.append.new.out end (record { key = c.args.key; frame = c.args.frame.now }) c.append.ensures) in
     record { saved = s.0; bytes = s.1 }

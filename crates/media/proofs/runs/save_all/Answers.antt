@@ -12,9 +12,9 @@ pub orders-preserved : goal.orders-preserved
 orders-preserved g c =
     let i = c.orders.i in
     let l = c.orders.auto.answers in
-    let P : List Tried → Type 0 = λ ts. Ran (g.M.Medium.newest c.args.medium.now) (g.M.Medium.left c.args.medium.now) ts (g.M.Medium.newest c.carry-out.new.medium) (g.M.Medium.left c.carry-out.new.medium) in (
-      subst P (sym (tried_more c.args.frames.now c.args.orders.now c.orders.answers i _ c.carry-out.result c.orders-test.true (omega arith))) (ran_more c.orders.invariant.0 c.carry-out.ensures),
-      drop-set-lt (length c.args.orders.now) c.orders.answers i c.carry-out.result c.orders-test.true ∙ c.orders.invariant.1,
+    let P : List Tried → Type 0 = λ ts. Ran (g.M.Medium.newest c.args.medium.now) (g.M.Medium.left c.args.medium.now) ts (g.M.Medium.newest c.carry_out.new.medium) (g.M.Medium.left c.carry_out.new.medium) in (
+      subst P (sym (tried_more c.args.frames.now c.args.orders.now c.orders.answers i _ c.carry_out.result c.orders-test.true (omega arith))) (ran_more c.orders.invariant.0 c.carry_out.ensures),
+      drop-set-lt (length c.args.orders.now) c.orders.answers i c.carry_out.result c.orders-test.true ∙ c.orders.invariant.1,
     )
 
 pub returns : goal.returns

@@ -2,5 +2,5 @@ use Rattle.std.proofs.Common.{arith, rules}
 use Rattle.dvvset.proofs.Lists.{bounded_set}
 use Rattle.clock.proofs.contexts.Context.with.Goals as goal
 
-pub invariant-of-result : goal.invariant-of-result
-invariant-of-result c = (search rules, (bounded_set 999999 c.args.column c.args.top c.args.self.tops (omega arith) c.args.self.low, tt))
+pub invariant_of-result : goal.invariant_of-result
+invariant_of-result c = (search rules, (bounded_set 999999 c.args.column c.args.top c.args.self.tops (omega arith) c.args.self.low, tt))

@@ -9,12 +9,12 @@ use Rattle.replay.proofs.memory.Cockpit.get.Goals as goal
 abbrev blanks : List (Sibling Setting)
 blanks = replicate 96 (record { dot = record { column = 0; counter = 0 }; value = no_setting })
 
-pub returns-in-err-count : goal.returns-in-err-count
-returns-in-err-count c =
+pub returns-in_err-count : goal.returns-in_err-count
+returns-in_err-count c =
     let k = c.index.result.now in
     let rows : length k.rows ≡ 24 = search rules in
     let cells : length k.cells ≡ 96 = search rules in
-    absurd (never_short k blanks rows cells refl c.in-err-count.field-0.0 c.in-err-count.ensures.answer)
+    absurd (never_short k blanks rows cells refl c.in_err-count.field-0.0 c.in_err-count.ensures.answer)
 
 pub returns : goal.returns
 returns c =
@@ -23,6 +23,6 @@ returns c =
     let rows : length k.rows ≡ 24 = search rules in
     let cells : length k.cells ≡ 96 = search rules in
     let whole : length ks ≡ 96 = search rules in
-    let same : key_at ks c.args.at ≡ k = key_read c.args.at c.in-ok-place.place c.in-ok-place.ensures ks k whole c.index.ensures in
-    let inside = placed-there c.args.at c.in-ok-place.place c.in-ok-place.ensures in
-    (inside, rw same (told-siblings k blanks rows cells refl _ _ c.in-ok-count.ensures.answer c.in-ok-count.ensures.out), rw same (told-context k.rows _ rows c.in-ok-context.ensures))
+    let same : key_at ks c.args.at ≡ k = key_read c.args.at c.in_ok-place.place c.in_ok-place.ensures ks k whole c.index.ensures in
+    let inside = placed-there c.args.at c.in_ok-place.place c.in_ok-place.ensures in
+    (inside, rw same (told-siblings k blanks rows cells refl _ _ c.in_ok-count.ensures.answer c.in_ok-count.ensures.out), rw same (told-context k.rows _ rows c.in_ok-context.ensures))

@@ -12,8 +12,8 @@ returns c =
     let out = c.args.out.now in
     let self = c.args.self.now in
     let all = setting_bytes self ++ drop 16 out in
-    let memory : put_mid 4 12 (c.copy-from-slice.new.self ++ post_of 0 4 out) c.copy-from-slice-2.new.self ≡ all = search rules in
-    let bytes : Bytes all = bytes_typed all (λ i. rw memory at (c.type-inv.out i)) in
+    let memory : put_mid 4 12 (c.copy_from_slice.new.self ++ post_of 0 4 out) c.copy_from_slice-2.new.self ≡ all = search rules in
+    let bytes : Bytes all = bytes_typed all (λ i. rw memory at (c.type_inv.out i)) in
     let twelve : length self.label ≡ 12 = search rules in
     let label : Bytes self.label = rw (take_at self.label (drop 16 out) 12 twelve) at (bytes_take 12 (drop 4 all) (bytes_drop 4 all bytes)) in
     record { memory = memory; valid = (search rules, twelve, label) }
