@@ -1,7 +1,9 @@
 // A setting: a measure with a label.
-ghost use Rattle.std.specs.Prelude.{◌≡◌, Decides};
+ghost use Rattle.std.specs.Prelude.{◌≡◌, ◌↔◌, ◌==◌, IsTrue};
+ghost use Rattle.std.specs.Cmp.Lexicographic.{pointwise};
 ghost use Rattle.values.specs.Layouts.{SettingFits, setting_bytes, setting_of};
 ghost use Rattle.std.specs.Cmp.Rules.{comparing};
+ghost use Rattle.std.specs.Ordering.{eq_of_both, flip_args, int_eq, on};
 ghost use Rattle.std.proofs.Common.{rules};
 ghost use Rattle.std.specs.Cmp as Keys;
 ghost use Rattle.values.specs.LayoutsLemmas.{setting_back, setting_forth, setting_fits};
@@ -19,13 +21,16 @@ pub struct Setting {
 
 // The measures and the labels are the same.
 impl PartialEq for Setting {
-    ghost equals = { λ a b r. Decides r (a ≡ b) };
+    ghost eq = { flip_args (eq_of_both (on (λ s. s.measure) int_eq) (on (λ s. s.label) (pointwise (λ x y. x == y)))) };
 
-    ghost laws = { Keys.partial_equiv_from_equiv (Prim.search (comparing, rules)) };
-
-    fn eq(&self, other: &Setting) -> bool {
+    fn eq(&self, other: &Setting) -> bool
+        ensures computed { result ≡ flip_args (eq_of_both (on (λ s. s.measure) int_eq) (on (λ s. s.label) (pointwise (λ x y. x == y)))) self.now other.now }
+        ensures same { IsTrue result ↔ (self.now ≡ other.now) }
+    {
         other.measure == self.measure && other.label == self.label
     }
+
+    ghost laws = { Keys.partial_equiv_from_equiv (Prim.search (comparing, rules)) };
 }
 
 impl Eq for Setting {

@@ -5,8 +5,8 @@ use Rattle.values.proofs.setting.SettingPartialEq.eq.Goals as goal
 use Rattle.std.proofs.lemmas.Bool.Decides.{Decides-eqb}
 
 -- where the measures are the same, the labels decide
-pub returns-then-other-self : goal.returns-then-other-self
-returns-then-other-self c =
+pub returns-then-other-self-clause-same : goal.returns-then-other-self-clause-same
+returns-then-other-self-clause-same c =
     let a = c.args.self.now in
     let b = c.args.other.now in
     let with_measure : ℤ → Setting = λ z. record { measure = z; label = a.label } in
