@@ -20,10 +20,10 @@ returns-in-Ok g c =
     let v = c.args.v.now in
     let memory = c.args.memory.now in
     let wrote = c.in-Ok.ensures in
-    let bs = g.row.V-Value.bytes_of v in
+    let bs = g.V.Value.bytes_of v in
     let long = g.met.V.Value.fills v wrote.valid in
     let back = g.met.V.Value.back v wrote.valid in
     record {
-      answer = come_back g.row.V-Value.width memory c.write_value.new.out bs g.row.V-Value.value_of v c.read_value.result (leb g.row.V-Value.width (length memory)) wrote.answer wrote.memory long back c.read_value.ensures.answer;
+      answer = come_back g.V.Value.width memory c.write_value.new.out bs g.V.Value.value_of v c.read_value.result (leb g.V.Value.width (length memory)) wrote.answer wrote.memory long back c.read_value.ensures.answer;
       memory = wrote.memory;
     }

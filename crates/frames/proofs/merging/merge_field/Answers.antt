@@ -6,14 +6,14 @@ use Rattle.frames.proofs.merging.merge_field.Goals as goal
 
 pub returns-then-b-a : goal.returns-then-b-a
 returns-then-b-a g c =
-    let v = g.row.V-Value in
+    let v = g.V.Value in
     let n = c.args.count in
     let vs = values_of v.width v.value_of n c.args.values.now in
     field-left c.args.mine c.row.result c.args.top n c.args.cells.now vs c.requires.few c.requires.within c.requires.low (length_values v.width v.value_of n c.args.values.now) (omega arith) (omega arith) (omega arith)
 
 pub returns : goal.returns
 returns g c =
-    let v = g.row.V-Value in
+    let v = g.V.Value in
     let n = c.args.count in
     let vs = values_of v.width v.value_of n c.args.values.now in
     rw c.read_values.ensures

@@ -20,7 +20,7 @@ slice_bounds-read_from-end g c = omega (arith, within _ _ c.loop-i.i c.args.coun
 
 pub loop-i-preserved : goal.loop-i-preserved
 loop-i-preserved g c =
-    let v = g.row.V-Value in
+    let v = g.V.Value in
     let i = c.loop-i.i in
     let w = c.width-w.result in
     let bs = c.args.values.now in
@@ -32,6 +32,6 @@ loop-i-preserved g c =
 
 pub returns : goal.returns
 returns g c =
-    let v = g.row.V-Value in
+    let v = g.V.Value in
     let n : c.loop-i.i ≡ c.args.count = omega arith in
     read_all v.width v.value_of c.args.cells.now c.loop-i.cells c.args.count c.args.values.now (c.loop-i.invariant ∙ ap (λ m. paste c.args.cells.now 0 (values_of v.width v.value_of c.args.count c.args.values.now) m) n)

@@ -5,7 +5,7 @@ use Rattle.frames.proofs.writing.field_size.Goals as goal
 
 pub returns : goal.returns
 returns g c =
-    let w = g.row.V-Value.width in
+    let w = g.V.Value.width in
     let n = c.of-a.result.count in
     let e = ap (λ k. k * n) c.width.ensures in
     let m = mul-le-mul_left {m = n} {n = 4} w c.of-a.result.few in

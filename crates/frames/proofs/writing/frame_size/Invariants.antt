@@ -5,4 +5,4 @@ use Rattle.frames.proofs.writing.frame_size.Given as goal
 
 abbrev pub invariant-loop-c : goal.invariant-loop-c
 invariant-loop-c g l =
-    (l.n ≤ 4 + 73 * l.c) × ((cells : List g.row.V.Denot) → 96 ≤ length cells → l.n ≡ frame_length g.row.V-Value.width (take l.c (state l.rows cells)))
+    (l.n ≤ 4 + 73 * l.c) × ((cells : List g.row.V.Denot) → 96 ≤ length cells → l.n ≡ frame_length g.V.Value.width (take l.c (state l.rows cells)))

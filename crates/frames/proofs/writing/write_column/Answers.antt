@@ -7,7 +7,7 @@ use Rattle.frames.proofs.writing.write_column.Goals as goal
 
 pub returns : goal.returns
 returns g c =
-    let v = g.row.V-Value in
+    let v = g.V.Value in
     let met = g.met.V.Value in
     let code : Code v.width v.bytes_of v.value_of v.valid = record { most = met.small.1; fills = met.fills; back = met.back; forth = met.forth; fits = met.fits } in
     let xs = c.args.values.now in

@@ -12,12 +12,12 @@ use Rattle.frames.proofs.writing.write_columns.Goals as goal
 
 pub write_field-at-requires : goal.write_field-at-requires
 write_field-at-requires g c =
-    let f = size_fits g.row.V-Value.width c.args.rows.now c.args.cells.now c.loop-c.c c.loop-c.at _ c.loop-c-test.true c.requires.cells c.loop-c.invariant.0 refl in
+    let f = size_fits g.V.Value.width c.args.rows.now c.args.cells.now c.loop-c.c c.loop-c.at _ c.loop-c-test.true c.requires.cells c.loop-c.invariant.0 refl in
     record { cells = simp (length-take, length-drop) (omega arith); room = omega arith }
 
 pub loop-c-preserved : goal.loop-c-preserved
 loop-c-preserved g c =
-    let v = g.row.V-Value in
+    let v = g.V.Value in
     let i : ℕ = c.loop-c.c in
     let k : ℕ = 4 * i + 4 - 4 * i in
     let four : k ≡ 4 = omega arith in
@@ -39,7 +39,7 @@ loop-c-preserved g c =
 
 pub returns : goal.returns
 returns g c =
-    let v = g.row.V-Value in
+    let v = g.V.Value in
     let rows = c.args.rows.now in
     let cells = c.args.cells.now in
     let S = state rows cells in

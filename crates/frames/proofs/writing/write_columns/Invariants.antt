@@ -7,7 +7,7 @@ use Rattle.frames.proofs.writing.write_columns.Given as goal
 
 abbrev pub invariant-loop-c : goal.invariant-loop-c
 invariant-loop-c g l =
-    let v = g.row.V-Value in
+    let v = g.V.Value in
     let S = state l.rows l.cells in
     let J = take 4 l.initial.out ++ rising_fields unwritten (column_field v.bytes_of) 0 (take l.c S) in
     (l.at ≡ frame_length v.width (take l.c S)) × (length J ≡ l.at) × (l.out ≡ J ++ drop l.at l.initial.out) × ((i : ℕ) → i < l.c → All v.valid (column_at S i).values)

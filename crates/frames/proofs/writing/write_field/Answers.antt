@@ -7,14 +7,14 @@ use Rattle.frames.proofs.writing.write_field.Goals as goal
 
 pub returns-then-a-eq0 : goal.returns-then-a-eq0
 returns-then-a-eq0 g c =
-    let v = g.row.V-Value in
+    let v = g.V.Value in
     let row = c.args.row in
     let r = nothing_written v.valid row c.args.cells.now c.args.out.now (column_field v.bytes_of c.args.c (column row c.args.cells.now)) c.args.at (9 + v.width * count_of row) (omega arith) in
     record { at = r.0; out = r.1; valid = r.2 }
 
 pub returns : goal.returns
 returns g c =
-    let v = g.row.V-Value in
+    let v = g.V.Value in
     let row = c.args.row in
     let cells = c.args.cells.now in
     let out = c.args.out.now in

@@ -7,11 +7,11 @@ use Rattle.frames.proofs.Writes.{row_more, joined_take_more, length_mid, wrote_m
 use Rattle.frames.proofs.writing.write_values.Goals as goal
 
 pub slice_bounds-write_to-end : goal.slice_bounds-write_to-end
-slice_bounds-write_to-end g c = omega (arith, row_fits g.row.V-Value.width c.loop-v.v-index (length c.args.values.now) c.loop-v-test.true)
+slice_bounds-write_to-end g c = omega (arith, row_fits g.V.Value.width c.loop-v.v-index (length c.args.values.now) c.loop-v-test.true)
 
 pub loop-v-preserved : goal.loop-v-preserved
 loop-v-preserved g c =
-    let code = g.row.V-Value in
+    let code = g.V.Value in
     let i = c.loop-v.v-index in
     let at = c.loop-v.at in
     let w = c.width-w.result in
@@ -33,7 +33,7 @@ loop-v-preserved g c =
 
 pub returns : goal.returns
 returns g c =
-    let code = g.row.V-Value in
+    let code = g.V.Value in
     let xs = c.args.values.now in
     let t : take c.loop-v.v-index xs ≡ xs = take_all c.loop-v.v-index xs c.loop-v-test.false in
     let i : c.loop-v.v-index ≡ length xs = omega arith in

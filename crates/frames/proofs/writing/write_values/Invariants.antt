@@ -4,5 +4,5 @@ use Rattle.frames.proofs.writing.write_values.Given as goal
 
 abbrev pub invariant-loop-v : goal.invariant-loop-v
 invariant-loop-v g l =
-    let code = g.row.V-Value in
+    let code = g.V.Value in
     (l.v-index ≤ length l.values) × (l.at ≡ code.width * l.v-index) × (length (flat_map code.bytes_of (take l.v-index l.values)) ≡ l.at) × (l.out ≡ flat_map code.bytes_of (take l.v-index l.values) ++ drop l.at l.initial.out) × All code.valid (take l.v-index l.values)
