@@ -1,14 +1,14 @@
 -- The column field, written and read. Assumes nothing.
-use Rattle.std.proofs.Common.{◌≡◌, ℕ, suc, ◌+◌, ◌*◌, ◌^◌, ◌<◌, ◌≤◌, false, eqb, leb, List, [], ◌∷◌, ◌++◌, length, get_or, take, drop, Ok, Err, Result, sym, refl, ap, ◌∙◌, mul_comm, mul-le-mul_left, arith}
+use Rattle.std.proofs.Common.{◌≡◌, ℕ, ◌+◌, ◌*◌, ◌≤◌, false, eqb, leb, List, [], ◌∷◌, ◌++◌, length, get_or, take, drop, Ok, sym, refl, ap, ◌∙◌, mul_comm, mul-le-mul_left, arith}
 use Rattle.std.proofs.lemmas.List.{length-take-le, length-drop, take-append-drop}
 use Rattle.std.proofs.lemmas.Bool.{le-leb, leb-true, eq-eqb, eqb-true, eqb-false, ne_eqb, and_from, and_parts}
 use Rattle.std.specs.List.{flat_map, AllByRecursion as All}
-use Rattle.refusals.specs.declared.Refusal.TheVariants.{Truncated, WrongLength, OutOfRange}
+use Rattle.refusals.specs.declared.Refusal.TheVariants.{WrongLength, OutOfRange}
 use Rattle.values.specs.BigEndian.{Bytes, from_bytes, to_bytes}
 use Rattle.values.specs.BigEndianLemmas.{bytes_take, bytes_drop, from_to_bytes, to_from_bytes}
 use Rattle.dvvset.specs.Clock.{ColumnState, Legal, no_writes}
 use Rattle.formats.specs.Frames.{field, unwritten, column_field}
-use Rattle.formats.specs.Reading.{Field, Told, values_of, tagged, raw_column, column_of, in_range, column_told}
+use Rattle.formats.specs.Reading.{Told, values_of, tagged, raw_column, column_of, in_range, column_told}
 use Rattle.formats.proofs.Steps.{then_ok, unless_ok, then_goes, unless_goes, ok_same, tagged-field, field-tagged}
 use Rattle.formats.proofs.Codes.{Code, length-joined, values_joined, length_values, joined_values}
 use Rattle.formats.proofs.Rising.{Kind}

@@ -1,13 +1,13 @@
 -- Entries, written and read. Assumes nothing.
-use Rattle.std.proofs.Common.{◌≡◌, ℕ, zero, suc, ◌+◌, ◌-◌, ◌*◌, ◌<◌, ◌≤◌, Bool, true, false, cond, ◌&&◌, eqb, leb, List, [], ◌∷◌, ◌++◌, length, get_or, take, drop, Some, None, Ok, Err, Option, Result, sym, refl, ap, ◌∙◌, subst, append_assoc, arith}
-use Rattle.std.proofs.lemmas.List.{length-append, length-drop, length-take-le, drop-drop}
+use Rattle.std.proofs.Common.{◌≡◌, ℕ, zero, suc, ◌+◌, ◌-◌, ◌*◌, ◌≤◌, Bool, true, false, cond, ◌&&◌, eqb, leb, List, [], ◌∷◌, ◌++◌, length, get_or, take, drop, Some, None, Ok, Err, Option, Result, sym, refl, ap, ◌∙◌, append_assoc, arith}
+use Rattle.std.proofs.lemmas.List.{length-drop, length-take-le, drop-drop}
 use Rattle.std.proofs.lemmas.Bool.{le-leb, leb-true, and_from, and_parts, cond-true}
 use Rattle.std.specs.List.{flat_map, AllByRecursion as All}
 use Rattle.refusals.specs.declared.Refusal.{Refusal}
 use Rattle.refusals.specs.declared.Refusal.TheVariants.{Truncated, UnexpectedTag, WrongLength, OutOfRange}
 use Rattle.values.specs.BigEndian.{Bytes}
 use Rattle.formats.specs.Frames.{field}
-use Rattle.formats.specs.Reading.{Field, then, unless, framed, tagged, in_front}
+use Rattle.formats.specs.Reading.{Field, then, framed, tagged, in_front}
 use Rattle.formats.specs.Entries.{Entry, EntryTold, Fit, Holds, entry_field, entry_told, ends, next_entry, onward, entries_from, entries}
 use Rattle.formats.proofs.Steps.{ok_same, then_ok, unless_ok, then_goes, unless_goes, tagged-field, field-tagged}
 

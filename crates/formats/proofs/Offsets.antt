@@ -7,7 +7,7 @@ use Rattle.refusals.specs.Refusals.{offset}
 use Rattle.values.specs.BigEndian.{from_bytes}
 use Rattle.dvvset.specs.Clock.{ColumnState, LegalState, State, column_at, no_writes}
 use Rattle.formats.specs.Frames.{fields_length, frame_length, unwritten}
-use Rattle.formats.specs.Reading.{Field, Head, Keyed, Raw, Told, then, unless, framed, tagged, head, in_range, raw_column, column_of, column_told, in_front, rising, reading}
+use Rattle.formats.specs.Reading.{Head, Keyed, Raw, Told, then, unless, framed, tagged, head, in_range, raw_column, column_told, in_front, rising, reading}
 use Rattle.formats.proofs.Steps.{ok_same, then_ok, unless_ok}
 
 -- a refusal, if it is one, points no further than m

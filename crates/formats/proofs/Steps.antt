@@ -1,10 +1,10 @@
 -- What a chain of tests came to, and one field, written and read. Assumes nothing.
-use Rattle.std.proofs.Common.{◌≡◌, ℕ, ◌+◌, ◌*◌, ◌/◌, ◌%◌, ◌<◌, ◌≤◌, Bool, true, false, cond, eqb, leb, List, [], ◌∷◌, ◌++◌, length, take, drop, Ok, Err, Result, sym, refl, ap, ◌∙◌, arith}
+use Rattle.std.proofs.Common.{◌≡◌, ℕ, ◌+◌, ◌*◌, ◌/◌, ◌%◌, ◌<◌, ◌≤◌, Bool, true, false, eqb, leb, List, [], ◌∷◌, ◌++◌, length, take, drop, Ok, Err, Result, sym, refl, ap, ◌∙◌, arith}
 use Rattle.std.proofs.lemmas.List.{length-append, length-take-le, take_at, drop_at, take-append-drop}
 use Rattle.std.proofs.lemmas.Bool.{le-leb, leb-true, eqb-true, eq-eqb, cond-true}
 use Rattle.refusals.specs.declared.Refusal.{Refusal}
 use Rattle.refusals.specs.declared.Refusal.TheVariants.{Truncated, UnexpectedTag}
-use Rattle.values.specs.BigEndian.{Bytes, to_bytes}
+use Rattle.values.specs.BigEndian.{Bytes}
 use Rattle.values.specs.BigEndianLemmas.{bytes_take, bytes_drop}
 use Rattle.formats.specs.Frames.{field}
 use Rattle.formats.specs.Reading.{Field, then, unless, framed, tagged}

@@ -1,10 +1,10 @@
 -- One frame for each state, for every code of values. Assumes nothing.
-use Rattle.std.proofs.Common.{◌≡◌, ℕ, ◌+◌, ◌*◌, ◌<◌, ◌≤◌, true, false, cond, List, [], ◌∷◌, length, get_or, sym, refl, ap, ◌∙◌, ⊎_elim, arith}
+use Rattle.std.proofs.Common.{◌≡◌, ℕ, ◌+◌, ◌*◌, ◌<◌, ◌≤◌, true, false, cond, List, [], ◌∷◌, length, sym, refl, ap, ◌∙◌, ⊎_elim, arith}
 use Rattle.std.proofs.ByRecursion.{All-get_or, All-from_get_or}
 use Rattle.std.proofs.lemmas.List.{get_or_past, length-append}
 use Rattle.std.proofs.lemmas.Bool.{cases_lt, cases_Bool, cond-true, cond-false}
 use Rattle.std.specs.List.{AllByRecursion as All}
-use Rattle.dvvset.specs.Clock.{ColumnState, State, LegalState, column_at, no_writes}
+use Rattle.dvvset.specs.Clock.{State, LegalState, column_at, no_writes}
 use Rattle.formats.specs.Frames.{unwritten, column_field, rising_fields, fields_length, frame}
 use Rattle.formats.specs.Reading.{column_told, reading}
 use Rattle.formats.specs.OneFrame.{Fit, OneFrame}

@@ -1,5 +1,5 @@
 -- A whole frame: its head, and then fields of one kind. Assumes nothing.
-use Rattle.std.proofs.Common.{◌≡◌, ℕ, ◌+◌, ◌*◌, ◌≤◌, Bool, cond, eqb, leb, List, [], ◌∷◌, ◌++◌, length, get_or, Ok, Err, Result, sym, refl, ap, ◌∙◌, mul-zero, mul-suc, arith}
+use Rattle.std.proofs.Common.{◌≡◌, ℕ, ◌+◌, ◌*◌, ◌≤◌, Bool, cond, eqb, leb, List, [], ◌∷◌, ◌++◌, length, get_or, Ok, Result, sym, refl, ap, ◌∙◌, mul-zero, mul-suc, arith}
 use Rattle.std.proofs.lemmas.List.{length-append}
 use Rattle.std.proofs.lemmas.Bool.{le-leb, leb-true, eqb-true, cond_both}
 use Rattle.std.specs.List.{AllByRecursion as All}
@@ -9,7 +9,7 @@ use Rattle.values.specs.BigEndian.{Bytes}
 use Rattle.formats.specs.Frames.{field, head_field, rising_fields}
 use Rattle.formats.specs.Reading.{Head, Told, Keyed, then, tagged, head, rising}
 use Rattle.formats.proofs.Steps.{then_ok, unless_ok, then_goes, unless_goes, ok_same, tagged-field, field-tagged}
-use Rattle.formats.proofs.Rising.{Kind, Wrote, reads_back, was_written}
+use Rattle.formats.proofs.Rising.{Kind, reads_back, was_written}
 
 -- ---- the head
 
