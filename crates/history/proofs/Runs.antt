@@ -146,7 +146,7 @@ module _ {V : Type 0} (bytes_of : V → List ℕ) where
           }
 
   next_calls : (w : World V) (c : Call V) → (next bytes_of w c).calls ≡ w.calls + 1
-  next_calls w c = ap (λ n. n + 1) (handed w c).same-calls
+  next_calls w c = ap (λ n. n + 1) (handed w c).same_calls
 
   pub calls_after : (w : World V) (cs : List (Call V)) → (after bytes_of w cs).calls ≡ w.calls + length cs
   calls_after w [] = omega arith
