@@ -6,7 +6,7 @@ use Rattle.std.proofs.lemmas.Bool.{eqb-true, eqb-false, eq-eqb, ne_eqb, ltb-true
 use Rattle.dvvset.specs.Limits.{columns, last_counter}
 use Rattle.history.specs.Events.{Write, Event, Events, writes, covered, highest}
 use Rattle.history.specs.Calls.{Context, blind, seen_at, Call, next_life, set_at, set_key}
-use Rattle.history.specs.Machine.{Gift, no_gift, context_of, frame_of, World, own, learn, with_owed, hand_out, keep, wake, tick, context_in, context_for, frame_in, join, new_write, step, next as next-world, start}
+use Rattle.history.specs.Machine.{Gift, no_gift, context_of, frame_of, World, own, learn, with_owed, hand_out, keep, wake, tick, context_in, context_for, frame_in, join, new_write, step, next as next_world, start}
 use Rattle.history.specs.Refines.{Within}
 use Rattle.history.proofs.Sets.{writes_subset}
 use Rattle.history.proofs.Columns.{Full, next, full_next, sound_old, highest_other, highest-own}
@@ -436,7 +436,7 @@ module _ {V : Type 0} where
                   (top-own (H k) (i.full k) w.calls (own w s) K C (i.knows s k).sound h.sound mine v p.room inside)) _;
             }
 
-    pub good-step : (c : Call V) → Good (next-world bytes_of w c)
+    pub good-step : (c : Call V) → Good (next_world bytes_of w c)
     good-step c =
         let g = by_step bytes_of w (λ r. GoodAt (w.calls + 1) r.world) ways c in
         good_tick g.all-writes g.all_events (w.calls + 1) (step bytes_of w c).world g.inv

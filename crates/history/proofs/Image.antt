@@ -4,7 +4,7 @@ use mathlib.Core.Path.{fun_ext}
 use Rattle.std.proofs.lemmas.Bool.{and_parts, ltb-true}
 use Rattle.refusals.specs.declared.Refusal.TheVariants.{TooManySiblings, CounterExhausted, MediumFull}
 use Rattle.dvvset.specs.Limits.{columns, most_siblings, last_counter}
-use Rattle.dvvset.specs.Clock.{refused, accepted, put as clock-put}
+use Rattle.dvvset.specs.Clock.{refused, accepted, put as clock_put}
 use Rattle.formats.specs.Frames.{context_frame}
 use Rattle.history.specs.Events.{Write, Events, writes, outside, held, highest, newest, tops}
 use Rattle.history.specs.Calls.{Context, blind, seen_at, Call, get, put, delete, send, deliver, save, restart, Answer, wrote, got, sent, done, live, mute, refused_by, misnamed, named, next_life, spendable, spend, set_at, set_key}
@@ -117,7 +117,7 @@ module _ {V : Type 0} where
     context_sound k x C c = (context_fits H good.all_events w.calls w good.inv k x C c).sound
 
     putting : (s k : ℕ) (x : Context) (v : V) → named s k ≡ true → ltb (w.life s) 4 ≡ true → (C : Events V) → context_for w k x ≡ Some C
-        → settle (image w) s k (clock-put (own w s) (tops C) v (shown (w.known s k))) ≡ image_step (put_at w s k C v)
+        → settle (image w) s k (clock_put (own w s) (tops C) v (shown (w.known s k))) ≡ image_step (put_at w s k C v)
     putting s k x v e l C c =
         ap (settle (image w) s k) (put_is (H k) (good.inv.full k) w.calls (own w s) (w.known s k) C (sound_of s k) (context_sound k x C c) (good.inv.mine s k alive) v inside)
         ∙ go (eqb top last_counter) (eqb (length (newest (own w s) (outside (writes C) (held (w.known s k))))) most_siblings)
@@ -149,7 +149,7 @@ module _ {V : Type 0} where
     image_of_step (put s k x v) = go (named s k) refl (ltb (w.life s) 4) refl
       where
         go : (a : Bool) → named s k ≡ a → (b : Bool) → ltb (w.life s) 4 ≡ b
-            → cond a (with_named (image w) (cond b (Some (own w s)) None) (λ o. with_named (image w) (clock_context_for (image w) k x) (λ C. settle (image w) s k (clock-put o C v (shown (w.known s k)))))) (clock_to (image w) misnamed)
+            → cond a (with_named (image w) (cond b (Some (own w s)) None) (λ o. with_named (image w) (clock_context_for (image w) k x) (λ C. settle (image w) s k (clock_put o C v (shown (w.known s k)))))) (clock_to (image w) misnamed)
             ≡ image_step (cond (a && b) (with_set w (context_for w k x) (λ C. put_at w s k C v)) (to w misnamed))
         go false e b l = refl
         go true e false l = refl

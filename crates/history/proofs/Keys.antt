@@ -7,7 +7,7 @@ use Rattle.std.proofs.lemmas.Bool.{eqb-false, eq-eqb, ne_eqb, cond-true, cond-fa
 use Rattle.refusals.specs.declared.Refusal.TheVariants.{TooManySiblings, CounterExhausted}
 use Rattle.dvvset.specs.declared.writes.Dot.{Dot}
 use Rattle.dvvset.specs.Limits.{columns, most_siblings, last_counter}
-use Rattle.dvvset.specs.Clock.{ColumnState, Legal, State, LegalState, Outcome, refused, accepted, no_writes, column_at, merge_column, discard_column, push, context, merge, discard, put as clock-put}
+use Rattle.dvvset.specs.Clock.{ColumnState, Legal, State, LegalState, Outcome, refused, accepted, no_writes, column_at, merge_column, discard_column, push, context, merge, discard, put as clock_put}
 use Rattle.dvvset.specs.Listing.{dotted, siblings}
 use Rattle.history.specs.Events.{Write, Events, as_list, writes, covered, outside, held, highest, down, newest, each_column, tops}
 use Rattle.history.specs.Shown.{shown_column, shown, sibling, listing}
@@ -223,8 +223,8 @@ module _ {V : Type 0} where
         (cond (eqb standing most_siblings) (refused TooManySiblings)
         (accepted (record { column = o; counter = highest o (writes K) + 1 }) (shown (join n K C (Some (record { column = o; counter = highest o (writes K) + 1; value = v }))))))
 
-    pub put_is : (v : V) → o < columns → clock-put o (tops C) v (shown K) ≡ outcome v
-    unfolding clock-put shown
+    pub put_is : (v : V) → o < columns → clock_put o (tops C) v (shown K) ≡ outcome v
+    unfolding clock_put shown
     put_is v l =
         ap (λ (S : State V). by (column_at S o) S) (discard_is H full K C)
         ∙ ap (λ (a : ColumnState V). by a (map left each_column)) (at_column left o no_writes l)

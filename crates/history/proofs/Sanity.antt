@@ -12,7 +12,7 @@ use Rattle.history.specs.Machine.{context_of, frame_of, World, own, learn, hand_
 use Rattle.history.specs.Refines.{Within, is_known}
 use Rattle.history.specs.Sanity.{PutIsHeld, PutStandsAlone, exchange, ExchangeAgrees, LastCounterRefused}
 use Rattle.history.proofs.Sets.{none_above}
-use Rattle.history.proofs.Columns.{newest-held, full_next, down-next, next as next-write}
+use Rattle.history.proofs.Columns.{newest-held, full_next, down-next, next as next_write}
 use Rattle.history.proofs.Tables.{joined_same}
 use Rattle.history.proofs.Keys.{SoundSet, writes-join, sound-put, top-own, top_other, floor_put}
 use Rattle.history.proofs.Listed.{listed_held, has_here}
@@ -118,7 +118,7 @@ module _ {V : Type 0} where
     inside : o < columns
     inside = omega (arith, put_done.puttable.seat, put_done.puttable.alive)
 
-    grown_sound : SoundSet (next-write o v H ∷ H) grown
+    grown_sound : SoundSet (next_write o v H ∷ H) grown
     grown_sound = sound-put H (good.inv.full k) w.calls o K C k_sound c_sound all v put_done.puttable.room inside
 
     floor : (c : ℕ) → highest c (covered grown) ≡ max (highest c (covered K)) (highest c (writes C))
@@ -133,7 +133,7 @@ module _ {V : Type 0} where
 
     pub put-held : Has (listing ((next bytes_of w (put s k x v)).known s k)) (record { dot = d; value = v })
     put-held =
-        let listed : Has (in_order (held grown)) new = all-has (Has (in_order (held grown))) (held grown) new (listed_held (next-write o v H ∷ H) grown grown_sound).1 new_held in
+        let listed : Has (in_order (held grown)) new = all-has (Has (in_order (held grown))) (held grown) new (listed_held (next_write o v H ∷ H) grown grown_sound).1 new_held in
         let shown_so : Has (listing grown) (sibling new) = all-has (λ y. Has (listing grown) (sibling y)) (in_order (held grown)) new (has_map sibling (in_order (held grown))) listed in
         subst (λ L. Has (listing L) (record { dot = d; value = v })) (sym known_after) (subst (Has (listing grown)) sibling_is shown_so)
 
@@ -143,7 +143,7 @@ module _ {V : Type 0} where
       top_of c = ap (λ L. highest c (writes L)) seen
 
       abbrev H' : List (Write V)
-      H' = next-write o v H ∷ H
+      H' = next_write o v H ∷ H
 
       column_alone : (c : ℕ) → newest c (held grown) ≡ cond (eqb o c) (new ∷ []) []
       column_alone c =

@@ -3,7 +3,7 @@ use Rattle.std.specs.Prelude.{ℕ, ◌+◌, Bool, true, false, cond, ◌&&◌, L
 use Rattle.refusals.specs.declared.Refusal.TheVariants.{MediumFull}
 use Rattle.dvvset.specs.declared.writes.Dot.{Dot}
 use Rattle.dvvset.specs.Limits.{owned}
-use Rattle.dvvset.specs.Clock.{State, Outcome, refused, accepted, blank, no_context, context, merge, discard, put as clock-put}
+use Rattle.dvvset.specs.Clock.{State, Outcome, refused, accepted, blank, no_context, context, merge, discard, put as clock_put}
 use Rattle.dvvset.specs.Listing.{siblings}
 use Rattle.formats.specs.Frames.{frame, context_frame}
 use Rattle.history.specs.Calls.{Context, blind, seen_at, Call, get, put, delete, send, deliver, save, restart, Answer, wrote, got, sent, done, live, mute, refused_by, misnamed, named, next_life, spendable, spend, set_at, set_key}
@@ -100,7 +100,7 @@ unfoldable pub clock_step : {V : Type 0} → (V → List ℕ) → ClockWorld V �
 clock_step bytes_of w (get s k) =
     cond (named s k) (clock_to (clock_hand_out w (context_of k (context (w.known s k)))) (got (siblings (w.known s k)) (context_frame k (context (w.known s k))))) (clock_to w misnamed)
 clock_step bytes_of w (put s k x v) =
-    cond (named s k) (with_named w (owned s (w.life s)) (λ own. with_named w (clock_context_for w k x) (λ C. settle w s k (clock-put own C v (w.known s k))))) (clock_to w misnamed)
+    cond (named s k) (with_named w (owned s (w.life s)) (λ own. with_named w (clock_context_for w k x) (λ C. settle w s k (clock_put own C v (w.known s k))))) (clock_to w misnamed)
 clock_step bytes_of w (delete s k x) =
     cond (named s k) (with_named w (clock_context_for w k x) (λ C. clock_to (clock_learn w s k (discard C (w.known s k))) done)) (clock_to w misnamed)
 clock_step bytes_of w (send s k) =
