@@ -4,10 +4,10 @@ use lib.Seq.{paste}
 use Rattle.std.proofs.lemmas.List.{append-nil, append_assoc, length-append, length-map, length-take-le, get_or-map, get_or-take, take_all, get_or_past, ext_get_or}
 use Rattle.std.proofs.lemmas.List.Edits.{paste_more, paste_all, paste-paste}
 use Rattle.std.proofs.lemmas.Bool.{cases_lt}
-use Rattle.dvvset.specs.Clock.{ColumnState, State, context, no_writes}
+use Rattle.dvvset.specs.Clock.{State, context, no_writes}
 use Rattle.dvvset.specs.Listing.{dotted, siblings, siblings_from}
 use Rattle.dvvset.specs.declared.writes.Sibling.{Sibling}
-use Rattle.clock.specs.Memory.{top_of, count_of, column, no_row, state}
+use Rattle.clock.specs.Memory.{top_of, count_of, no_row, state}
 use Rattle.clock.specs.declared.rows.Row.{Row}
 use Rattle.clock.proofs.Whole.{bounds, length-state, get_or-state, length-column, column_part}
 

@@ -1,7 +1,7 @@
 -- Merge, discard and push of one column, by the numbers of its row. Assumes nothing.
 use Rattle.std.proofs.Common.{◌≡◌, ℕ, ◌+◌, ◌-◌, ◌<◌, ◌≤◌, min, max, List, [], ◌∷◌, ◌++◌, length, take, drop, set, sym, refl, ap, ◌∙◌, add-one, arith}
 use Rattle.std.proofs.lemmas.List.{length-take-le, length-drop, take-take}
-use Rattle.dvvset.specs.Clock.{ColumnState, first, merge_column, discard_column, push}
+use Rattle.dvvset.specs.Clock.{first, merge_column, discard_column, push}
 use Rattle.dvvset.proofs.Lists.{take_min}
 use Rattle.dvvset.proofs.Merging as merging
 use Rattle.clock.specs.Memory.{top_of, count_of, column}

@@ -1,4 +1,4 @@
-use Rattle.std.proofs.Common.{length, get_or, replicate, sym, ap, ◌∙◌, arith}
+use Rattle.std.proofs.Common.{length, get_or, replicate, ap, ◌∙◌, arith}
 use Rattle.clock.proofs.Dots.{length-context, context_low}
 use Rattle.clock.proofs.listing.context_of.Goals as goal
 
@@ -7,4 +7,4 @@ invariant_of-result c =
     let rows = c.args.rows.now in
     let units = replicate 96 (tt {0}) in
     let is = c.row_tops.ensures in
-    (ap length is ∙ length-context rows units, ((λ k. omega (arith, ap (λ ns. get_or ns k 0) is, context_low rows units k)), tt))
+    record { wide = ap length is ∙ length-context rows units; low = λ k. omega (arith, ap (λ ns. get_or ns k 0) is, context_low rows units k) }

@@ -1,4 +1,4 @@
-use Rattle.std.proofs.Common.{take, arith, rules}
+use Rattle.std.proofs.Common.{take, arith}
 use Rattle.std.proofs.lemmas.List.Edits.{paste_none}
 use Rattle.dvvset.specs.Listing.{dotted}
 use Rattle.clock.proofs.Dots.{paste-dotted}
@@ -6,9 +6,6 @@ use Rattle.clock.proofs.listing.list_column.Goals as goal
 
 pub loop-i-init : goal.loop-i-init
 loop-i-init g c = paste_none c.args.out.now c.args.at (dotted c.args.c c.of-column.result.top (take c.of-column.result.count c.args.cells.now))
-
-pub offset_bounds-out-at : goal.offset_bounds-out-at
-offset_bounds-out-at g c = search rules
 
 pub loop-i-preserved : goal.loop-i-preserved
 loop-i-preserved g c =

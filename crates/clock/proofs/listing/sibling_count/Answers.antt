@@ -1,4 +1,4 @@
-use Rattle.std.proofs.Common.{◌≡◌, ◌+◌, length, ap, ◌∙◌, arith}
+use Rattle.std.proofs.Common.{◌+◌, length, ap, ◌∙◌, arith}
 use Rattle.clock.proofs.Dots.{count_more, siblings-all}
 use Rattle.clock.proofs.listing.sibling_count.Goals as goal
 

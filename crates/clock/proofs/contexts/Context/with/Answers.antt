@@ -3,4 +3,4 @@ use Rattle.dvvset.proofs.Lists.{bounded_set}
 use Rattle.clock.proofs.contexts.Context.with.Goals as goal
 
 pub invariant_of-result : goal.invariant_of-result
-invariant_of-result c = (search rules, (bounded_set 999999 c.args.column c.args.top c.args.self.tops (omega arith) c.args.self.low, tt))
+invariant_of-result c = record { wide = search rules; low = bounded_set 999999 _ c.args.top c.args.self.tops (omega arith) c.args.self.low }
