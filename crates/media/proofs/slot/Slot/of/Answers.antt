@@ -1,4 +1,4 @@
-use Rattle.std.proofs.Common.{◌≡◌, false, eqb, length, take, drop, replicate, Some, refl, ap, ◌∙◌, arith}
+use Rattle.std.proofs.Common.{eqb, length, take, Some, refl, ap, ◌∙◌, arith}
 use Rattle.std.proofs.lemmas.List.{take_at}
 use Rattle.std.proofs.lemmas.Bool.{cond-false, ne_eqb}
 use Rattle.media.proofs.slot.Slot.of.Goals as goal

@@ -1,5 +1,4 @@
-use Rattle.std.proofs.Common.{◌≡◌, length, Ok, sym, refl, ◌∙◌, inl, arith}
-use Rattle.media.specs.Media.{admitted}
+use Rattle.std.proofs.Common.{length, refl, inl, arith}
 use Rattle.media.proofs.Frames.{bounds, frames_set}
 use Rattle.media.proofs.slots.SlotsMedium.save.Goals as goal
 
