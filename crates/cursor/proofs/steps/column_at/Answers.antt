@@ -15,7 +15,7 @@ pub returns-then-not-is_column : goal.returns-then-not-is_column
 returns-then-not-is_column g c =
     let f = c.in-Ok.ensures in
     let t : c.from_be_bytes-top.result ≡ number_at 4 5 c.args.rest.now = search rules in
-    let r = out_of_range g.row.V-Value.width c.args.at c.in-Ok.length c.args.rest.now f.0 c.if-length-lt6.false f.1 _ t (sym c.if-not-is_column.ensures) in
+    let r = out_of_range g.V.Value.width c.args.at c.in-Ok.length c.args.rest.now f.0 c.if-length-lt6.false f.1 _ t (sym c.if-not-is_column.ensures) in
     record { value = sym (ap (show c.args.at) r); within = omega arith }
 
 pub returns-then-length-width : goal.returns-then-length-width
@@ -23,7 +23,7 @@ returns-then-length-width g c =
     let f = c.in-Ok.ensures in
     let t : c.from_be_bytes-top.result ≡ number_at 4 5 c.args.rest.now = search rules in
     let w = ap (λ k. 6 + k * get_or c.args.rest.now 4 0) c.width.ensures in
-    let r = wrong_length g.row.V-Value.width c.args.at c.in-Ok.length c.args.rest.now f.0 c.if-length-lt6.false f.1 _ t (sym c.if-not-is_column.ensures) (λ e. c.if-length-width.true (e ∙ sym w)) in
+    let r = wrong_length g.V.Value.width c.args.at c.in-Ok.length c.args.rest.now f.0 c.if-length-lt6.false f.1 _ t (sym c.if-not-is_column.ensures) (λ e. c.if-length-width.true (e ∙ sym w)) in
     record { value = sym (ap (show c.args.at) r); within = omega arith }
 
 pub returns-else-length-width : goal.returns-else-length-width
@@ -31,7 +31,7 @@ returns-else-length-width g c =
     let f = c.in-Ok.ensures in
     let t : c.from_be_bytes-top.result ≡ number_at 4 5 c.args.rest.now = search rules in
     let w = ap (λ k. 6 + k * get_or c.args.rest.now 4 0) c.width.ensures in
-    let r = a_column_there g.row.V-Value.width c.args.at c.in-Ok.length c.args.rest.now f.0 c.if-length-lt6.false f.1 _ t (sym c.if-not-is_column.ensures) (c.if-length-width.false ∙ w) in
+    let r = a_column_there g.V.Value.width c.args.at c.in-Ok.length c.args.rest.now f.0 c.if-length-lt6.false f.1 _ t (sym c.if-not-is_column.ensures) (c.if-length-width.false ∙ w) in
     let l = f.0 in
     let six = c.if-length-lt6.false in
     record { value = sym (ap (show c.args.at) r); within = simp (length-take, length-drop) (omega arith) }
