@@ -1,13 +1,13 @@
 -- What a cursor's step tells of the bytes. Assumes nothing.
-use Rattle.std.proofs.Common.{◌≡◌, ℕ, ◌+◌, ◌*◌, ◌≤◌, eqb, leb, List, [], ◌∷◌, length, get_or, take, drop, Ok, Err, Result, sym, refl, ap, ◌∙◌, arith}
+use Rattle.std.proofs.Common.{◌≡◌, ℕ, ◌+◌, ◌*◌, ◌≤◌, eqb, leb, List, [], ◌∷◌, length, get_or, take, drop, Ok, Err, Result, sym, ap, ◌∙◌, arith}
 use Rattle.std.proofs.lemmas.List.{length-drop, length-take-le, drop-drop}
 use Rattle.std.proofs.lemmas.Bool.{leb-true, eqb-true, and_parts}
 use Rattle.refusals.specs.declared.Refusal.{Refusal}
 use Rattle.refusals.specs.declared.Refusal.TheVariants.{Truncated, UnexpectedTag, WrongLength, OutOfRange}
 use Rattle.values.specs.BigEndian.{from_bytes}
-use Rattle.formats.specs.Reading.{Field as FieldBytes, Head as HeadBytes, Raw, then, unless, framed, tagged, head, in_range, raw_column}
+use Rattle.formats.specs.Reading.{Field as FieldBytes, Head as HeadBytes, Raw, then, framed, tagged, head, in_range, raw_column}
 use Rattle.formats.proofs.Steps.{ok_same, then_ok, unless_ok}
-use Rattle.cursor.specs.Seen.{Shown, a_head, a_column, a_top, head_seen, column_seen}
+use Rattle.cursor.specs.Seen.{a_head, a_column, a_top, head_seen, column_seen}
 
 -- a field ends where its length says
 framed_rest : (at : ℕ) (bs : List ℕ) (f : FieldBytes) → framed at bs ≡ Ok f → (f.rest ≡ drop (3 + length f.body) bs) × (3 + length f.body ≤ length bs)

@@ -6,7 +6,7 @@ use Rattle.refusals.specs.declared.Refusal.{Refusal}
 use Rattle.refusals.specs.declared.Refusal.TheVariants.{Truncated, UnexpectedTag, WrongLength, OutOfRange}
 use Rattle.values.specs.BigEndian.{from_bytes}
 use Rattle.values.specs.BigEndianLemmas.{number_at, from_bytes_at}
-use Rattle.formats.specs.Reading.{Raw, unless, framed, tagged, in_range, raw_column}
+use Rattle.formats.specs.Reading.{Raw, unless, tagged, in_range, raw_column}
 use Rattle.formats.proofs.Steps.{then_goes, unless_goes}
 use Rattle.cursor.specs.Seen.{cut_at}
 

@@ -2,7 +2,7 @@
 use Rattle.std.specs.Prelude.{◌≡◌, ℕ, ◌+◌, ◌≤◌, List, length, take, drop, Some, None, Ok, Err, Option, Result, MatchResult}
 use Rattle.std.specs.Option.{option_map}
 use Rattle.refusals.specs.declared.Refusal.{Refusal}
-use Rattle.formats.specs.Reading.{Field as FieldBytes, Head as HeadBytes, Raw, Told, then, tagged, head, raw_column, top_told}
+use Rattle.formats.specs.Reading.{Field as FieldBytes, then, tagged, head, raw_column, top_told}
 use Rattle.formats.specs.Entries.{next_entry}
 use Rattle.cursor.specs.declared.fields.Field.{Field}
 use Rattle.cursor.specs.declared.fields.Field.TheVariants.{Head, Column, Top, Entry}
