@@ -88,9 +88,9 @@ class Machine:
         events = self.knows(seat, key)
         column = 4 * seat + self.life[seat]
         if top(events, column) == LAST:
-            return ("refused-by", "CounterExhausted")
+            return ("refused_by", "CounterExhausted")
         if len({w for w in held(events) if w[0] == column and w[:2] not in dots(ctx)}) == MOST:
-            return ("refused-by", "TooManySiblings")
+            return ("refused_by", "TooManySiblings")
         counter = top(events, column) + 1
         event = Event(self.calls, (column, counter, value), frozenset(dots(ctx)))
         self.known[seat, key] = events | ctx | {event}
@@ -115,7 +115,7 @@ class Machine:
         if receipt is not None and self.owed.get((seat, key)) != receipt:
             return "misnamed"
         if len(frame(key, self.knows(seat, key))) + 4 > left:
-            return ("refused-by", "MediumFull")
+            return ("refused_by", "MediumFull")
         self.kept[seat, key] = self.knows(seat, key)
         if receipt is not None:
             del self.owed[seat, key]
@@ -135,16 +135,16 @@ def scenario(name, about, *calls):
 
 SCENARIOS = [
     scenario(
-        "two-writers", "two seats write at once; one hears of both, and puts in place of both",
+        "two_writers", "two seats write at once; one hears of both, and puts in place of both",
         ("put", 0, 3, None, 10), ("put", 1, 3, None, 20), ("send", 1, 3), ("deliver", 0, 3, 2), ("get", 0, 3), ("put", 0, 3, 4, 30), ("get", 0, 3),
     ),
     scenario(
-        "late-frame", "a frame that comes late and twice, and what was never saved",
+        "late_frame", "a frame that comes late and twice, and what was never saved",
         ("put", 0, 2, None, 65), ("put", 1, 2, None, 66), ("send", 0, 2), ("deliver", 1, 2, 2), ("get", 1, 2), ("put", 0, 2, None, 68), ("put", 1, 2, 4, 67),
         ("save", 1, 2, 6, 1760), ("send", 1, 2), ("deliver", 0, 2, 8), ("deliver", 1, 2, 2), ("get", 1, 2), ("put", 1, 2, None, 69), ("restart", 1), ("put", 1, 2, None, 72), ("get", 1, 2), ("get", 0, 2),
     ),
     scenario(
-        "four-siblings", "four writes that nothing has seen, and no fifth; but one that has seen the first",
+        "four_siblings", "four writes that nothing has seen, and no fifth; but one that has seen the first",
         ("put", 2, 0, None, 1), ("get", 2, 0), ("put", 2, 0, None, 2), ("put", 2, 0, None, 3), ("put", 2, 0, None, 4), ("put", 2, 0, None, 5), ("put", 2, 0, 1, 6), ("get", 2, 0),
     ),
     scenario(
@@ -152,11 +152,11 @@ SCENARIOS = [
         ("put", 3, 7, None, 1), ("get", 3, 7), ("put", 3, 7, None, 2), ("delete", 3, 7, 1), ("get", 3, 7), ("delete", 3, 7, None), ("get", 3, 7), ("delete", 4, 7, 6), ("get", 4, 7), ("send", 4, 7),
     ),
     scenario(
-        "seen-elsewhere", "a context of another seat brings its events along",
+        "seen_elsewhere", "a context of another seat brings its events along",
         ("put", 0, 1, None, 1), ("get", 0, 1), ("put", 5, 1, 1, 2), ("get", 5, 1), ("put", 0, 1, None, 3), ("send", 5, 1), ("deliver", 0, 1, 5), ("get", 0, 1),
     ),
     scenario(
-        "full-medium", "a save that just fits, and one that does not",
+        "full_medium", "a save that just fits, and one that does not",
         ("save", 5, 15, None, 8), ("save", 5, 15, None, 7), ("put", 5, 15, None, 1), ("save", 5, 15, 2, 17), ("save", 5, 15, 2, 18), ("put", 5, 15, None, 2), ("save", 5, 15, None, 18), ("restart", 5), ("get", 5, 15),
     ),
     scenario(
@@ -165,26 +165,24 @@ SCENARIOS = [
         ("put", 0, 4, None, 2), ("put", 0, 4, None, 3), ("save", 0, 4, 6, 99), ("save", 0, 4, None, 99), ("restart", 0), ("save", 0, 4, 7, 99),
     ),
     scenario(
-        "last-life", "four restarts, and the seat is mute: it puts no more, and all else goes on",
+        "last_life", "four restarts, and the seat is mute: it puts no more, and all else goes on",
         ("restart", 4), ("put", 4, 9, None, 1), ("save", 4, 9, 1, 99), ("restart", 4), ("restart", 4), ("put", 4, 9, None, 2), ("restart", 4), ("put", 4, 9, None, 3), ("get", 4, 9), ("delete", 4, 9, 8), ("send", 4, 9), ("restart", 4), ("get", 4, 9),
     ),
     scenario(
-        "misnamed-calls", "calls that name no seat, no key, or nothing that was given",
+        "misnamed_calls", "calls that name no seat, no key, or nothing that was given",
         ("put", 6, 0, None, 1), ("put", 0, 16, None, 1), ("get", 0, 16), ("restart", 6), ("put", 0, 0, None, 1), ("get", 0, 0), ("send", 0, 0),
         ("put", 0, 0, 6, 2), ("put", 0, 1, 5, 2), ("delete", 0, 0, 99), ("deliver", 1, 0, 5), ("deliver", 1, 1, 6), ("deliver", 1, 0, 12), ("save", 0, 0, 5, 99), ("get", 1, 0),
     ),
 ]
 
 HEADER = """-- Lists of calls with the answers that a second program worked out: tests/machine writes this file. Assumes nothing.
-use mathlib.Core.Path.{_≡_}
-use mathlib.Core.List.{List, [], _∷_, map}
-use Prim.Native.Nat.{ℕ}
-use Rattle·refusals.specs.declared.Refusal.the-variants.{TooManySiblings, MediumFull}
-use Rattle·dvvset.specs.declared.writes.Dot.{Dot}
-use Rattle·dvvset.specs.declared.writes.Sibling.{Sibling}
-use Rattle·history·specs.Calls.{blind, seen-at, no-receipt, receipt-of, Call, get, put, delete, send, deliver, save, restart, Answer, wrote, got, sent, done, live, mute, refused-by, misnamed}
-use Rattle·history·specs.Machine.{answers, start}
-use Rattle·history·specs.Clocks.{clock-answers, clock-start}
+use Rattle.std.specs.Prelude.{◌≡◌, ℕ, List, [], ◌∷◌, map}
+use Rattle.refusals.specs.declared.Refusal.TheVariants.{TooManySiblings, MediumFull}
+use Rattle.dvvset.specs.declared.writes.Dot.{Dot}
+use Rattle.dvvset.specs.declared.writes.Sibling.{Sibling}
+use Rattle.history.specs.Calls.{blind, seen_at, no_receipt, receipt_of, Call, get, put, delete, send, deliver, save, restart, Answer, wrote, got, sent, done, live, mute, refused_by, misnamed}
+use Rattle.history.specs.Machine.{answers, start}
+use Rattle.history.specs.Clocks.{clock_answers, clock_start}
 
 abbrev pub dot : ℕ → ℕ → Dot
 dot c n = record { column = c; counter = n }
@@ -202,8 +200,8 @@ turn c a = record { asked = c; answered = a }
 
 FOOTER = """-- The machine gives these answers, and so do the clocks; a value is one byte.
 pub record Scenarios : Type 0 where
-  pub by-machine : map (λ turns. answers (λ v. v ∷ []) start (map (λ t. t .asked) turns)) scenarios ≡ map (λ turns. map (λ t. t .answered) turns) scenarios
-  pub by-clocks : map (λ turns. clock-answers (λ v. v ∷ []) clock-start (map (λ t. t .asked) turns)) scenarios ≡ map (λ turns. map (λ t. t .answered) turns) scenarios
+  pub by_machine : map (λ turns. answers (λ v. v ∷ []) start (map (λ t. t.asked) turns)) scenarios ≡ map (λ turns. map (λ t. t.answered) turns) scenarios
+  pub by_clocks : map (λ turns. clock_answers (λ v. v ∷ []) clock_start (map (λ t. t.asked) turns)) scenarios ≡ map (λ turns. map (λ t. t.answered) turns) scenarios
 """
 
 
@@ -214,9 +212,9 @@ def listed(items):
 def call_text(name, seat, *rest):
     rest = list(rest)
     if name in ("put", "delete"):
-        rest[1] = "blind" if rest[1] is None else f"(seen-at {rest[1]})"
+        rest[1] = "blind" if rest[1] is None else f"(seen_at {rest[1]})"
     if name == "save":
-        rest[1] = "no-receipt" if rest[1] is None else f"(receipt-of {rest[1]})"
+        rest[1] = "no_receipt" if rest[1] is None else f"(receipt_of {rest[1]})"
     return " ".join(map(str, ["(" + name, seat, *rest])) + ")"
 
 
@@ -230,7 +228,7 @@ def answer_text(answer):
         return f"(got {listed([f'at {c} {n} {v}' for c, n, v in rest[0]])} {listed(rest[1])})"
     if kind == "sent":
         return f"(sent {listed(rest[0])})"
-    return f"(refused-by {rest[0]})"
+    return f"(refused_by {rest[0]})"
 
 
 def main():

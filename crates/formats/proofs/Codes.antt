@@ -1,7 +1,7 @@
 -- Values of one width, one after the other. Assumes nothing.
 use Rattle.std.proofs.Common.{◌≡◌, ℕ, zero, suc, ◌*◌, ◌≤◌, List, [], ◌∷◌, length, take, drop, sym, refl, ap, mul-zero, mul-suc, arith}
 use Rattle.std.proofs.lemmas.List.{length-append, length-take-le, length-drop, take_at, drop_at, take-append-drop}
-use Rattle.std.specs.List.{flat_map, AllByRecursion as All}
+use Rattle.std.specs.List.{flat_map, AllByRecursion}
 use Rattle.values.specs.BigEndian.{Bytes}
 use Rattle.values.specs.BigEndianLemmas.{bytes_take, bytes_drop}
 use Rattle.formats.specs.Reading.{values_of}
@@ -15,11 +15,11 @@ pub record Code {V : Type 0} (width : ℕ) (bytes_of : V → List ℕ) (value_of
   pub fits : (bs : List ℕ) → length bs ≡ width → Bytes bs → valid (value_of bs)
 
 module _ {V : Type 0} {width : ℕ} {bytes_of : V → List ℕ} {value_of : List ℕ → V} {valid : V → Type 0} (code : Code width bytes_of value_of valid) where
-  pub length-joined : (vs : List V) → All valid vs → length (flat_map bytes_of vs) ≡ width * length vs
+  pub length-joined : (vs : List V) → AllByRecursion valid vs → length (flat_map bytes_of vs) ≡ width * length vs
   length-joined [] h = sym (mul-zero width)
   length-joined (v ∷ vs) h = omega (arith, length-append (bytes_of v) (flat_map bytes_of vs), code.fills v h.0, length-joined vs h.1, mul-suc width (length vs))
 
-  pub values_joined : (vs : List V) → All valid vs → values_of width value_of (length vs) (flat_map bytes_of vs) ≡ vs
+  pub values_joined : (vs : List V) → AllByRecursion valid vs → values_of width value_of (length vs) (flat_map bytes_of vs) ≡ vs
   values_joined [] h = refl
   values_joined (v ∷ vs) h =
       let f = code.fills v h.0 in
@@ -34,7 +34,7 @@ module _ {V : Type 0} {width : ℕ} {bytes_of : V → List ℕ} {value_of : List
   length_values (suc n) bs = ap suc (length_values n (drop width bs))
 
   pub record Read (n : ℕ) (bs : List ℕ) : Type 0 where
-    pub each : All valid (values_of width value_of n bs)
+    pub each : AllByRecursion valid (values_of width value_of n bs)
     pub is : flat_map bytes_of (values_of width value_of n bs) ≡ bs
 
   pub joined_values : (n : ℕ) (bs : List ℕ) → length bs ≡ width * n → Bytes bs → Read n bs

@@ -2,7 +2,7 @@
 use Rattle.std.proofs.Common.{◌≡◌, ℕ, ◌+◌, ◌*◌, ◌≤◌, false, eqb, leb, List, [], ◌∷◌, ◌++◌, length, get_or, take, drop, Ok, sym, refl, ap, ◌∙◌, mul_comm, mul-le-mul_left, arith}
 use Rattle.std.proofs.lemmas.List.{length-take-le, length-drop, take-append-drop}
 use Rattle.std.proofs.lemmas.Bool.{le-leb, leb-true, eq-eqb, eqb-true, eqb-false, ne_eqb, and_from, and_parts}
-use Rattle.std.specs.List.{flat_map, AllByRecursion as All}
+use Rattle.std.specs.List.{flat_map, AllByRecursion}
 use Rattle.refusals.specs.declared.Refusal.TheVariants.{WrongLength, OutOfRange}
 use Rattle.values.specs.BigEndian.{Bytes, from_bytes, to_bytes}
 use Rattle.values.specs.BigEndianLemmas.{bytes_take, bytes_drop, from_to_bytes, to_from_bytes}
@@ -16,7 +16,7 @@ use Rattle.formats.proofs.Rising.{Kind}
 -- a column that can stand in a frame
 pub record Good {V : Type 0} (valid : V → Type 0) (a : ColumnState V) : Type 0 where
   pub legal : Legal a
-  pub fit : All valid a.values
+  pub fit : AllByRecursion valid a.values
 
 module _ {V : Type 0} {width : ℕ} {bytes_of : V → List ℕ} {value_of : List ℕ → V} {valid : V → Type 0} (code : Code width bytes_of value_of valid) where
   -- what stands in a column's field
@@ -61,7 +61,7 @@ module _ {V : Type 0} {width : ℕ} {bytes_of : V → List ℕ} {value_of : List
   abbrev column : List ℕ → ColumnState V
   column bd = record { top = top bd; values = values_of width value_of (count bd) (drop 6 bd) }
 
-  body_is : (bd : List ℕ) → 6 ≤ length bd → Bytes bd → length bd ≡ 6 + width * count bd → (body (col bd) (column bd) ≡ bd) × All valid (column bd).values
+  body_is : (bd : List ℕ) → 6 ≤ length bd → Bytes bd → length bd ≡ 6 + width * count bd → (body (col bd) (column bd) ≡ bd) × AllByRecursion valid (column bd).values
   body_is [] l b e = absurd (omega arith)
   body_is (x ∷ []) l b e = absurd (omega arith)
   body_is (x ∷ y ∷ bd) l b e =

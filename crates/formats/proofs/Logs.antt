@@ -2,7 +2,7 @@
 use Rattle.std.proofs.Common.{◌≡◌, ℕ, zero, suc, ◌+◌, ◌-◌, ◌*◌, ◌≤◌, Bool, true, false, cond, ◌&&◌, eqb, leb, List, [], ◌∷◌, ◌++◌, length, get_or, take, drop, Some, None, Ok, Err, Option, Result, sym, refl, ap, ◌∙◌, append_assoc, arith}
 use Rattle.std.proofs.lemmas.List.{length-drop, length-take-le, drop-drop}
 use Rattle.std.proofs.lemmas.Bool.{le-leb, leb-true, and_from, and_parts, cond-true}
-use Rattle.std.specs.List.{flat_map, AllByRecursion as All}
+use Rattle.std.specs.List.{flat_map, AllByRecursion}
 use Rattle.refusals.specs.declared.Refusal.{Refusal}
 use Rattle.refusals.specs.declared.Refusal.TheVariants.{Truncated, UnexpectedTag, WrongLength, OutOfRange}
 use Rattle.values.specs.BigEndian.{Bytes}
@@ -154,7 +154,7 @@ none_ended at bs = go (ends bs)
     go true e = refl
     go false e = let u = then_ok (entry_told at bs) _ None e in let z : ◌≡◌ {A = ℕ} 0 1 = cc in absurd (omega arith)
 
-pub all_written : (at : ℕ) (es : List Entry) (rest : List ℕ) → All Fit es → ends rest ≡ true → all_from at (flat_map entry_field es ++ rest) ≡ Ok es
+pub all_written : (at : ℕ) (es : List Entry) (rest : List ℕ) → AllByRecursion Fit es → ends rest ≡ true → all_from at (flat_map entry_field es ++ rest) ≡ Ok es
 all_written at [] rest g e = all_ended at rest (ended_none at rest e)
 all_written at (x ∷ es) rest g e =
     let tail = flat_map entry_field es ++ rest in
@@ -162,12 +162,12 @@ all_written at (x ∷ es) rest g e =
     ∙ all-step at (entry_field x ++ tail) _ (entry_written at x tail g.0)
     ∙ ap (in_front x) (all_written (at + (4 + length x.frame)) es rest g.1 e)
 
-pub all_fit : (n at : ℕ) (bs : List ℕ) (es : List Entry) → entries_from n at bs ≡ Ok es → All Fit es
+pub all_fit : (n at : ℕ) (bs : List ℕ) (es : List Entry) → entries_from n at bs ≡ Ok es → AllByRecursion Fit es
 unfolding entries_from
 all_fit zero at bs es e = rw (← ok_same e) tt
 all_fit (suc n) at bs es e = go (next_entry at bs) refl (all_fit n) e
   where
-    go : (r : Result (Option EntryTold) Refusal) → next_entry at bs ≡ r → ((at : ℕ) (bs : List ℕ) (es : List Entry) → entries_from n at bs ≡ Ok es → All Fit es) → then r (onward (λ e. entries_from n e.next e.rest)) ≡ Ok es → All Fit es
+    go : (r : Result (Option EntryTold) Refusal) → next_entry at bs ≡ r → ((at : ℕ) (bs : List ℕ) (es : List Entry) → entries_from n at bs ≡ Ok es → AllByRecursion Fit es) → then r (onward (λ e. entries_from n e.next e.rest)) ≡ Ok es → AllByRecursion Fit es
     go (Err x) is more e = absurd (let z : ◌≡◌ {A = ℕ} 0 1 = cc in omega arith)
     go (Ok None) is more e = rw (← ok_same e) tt
     go (Ok (Some t)) is more e = let u = then_ok (entries_from n t.next t.rest) _ es e in rw (← ok_same u.2) ((cut at bs t is).fit, more t.next t.rest u.0 u.1)

@@ -1,7 +1,7 @@
 -- Fields of rising columns: what is written reads back, and what is read was so written. Assumes nothing.
 use Rattle.std.proofs.Common.{◌≡◌, ℕ, zero, suc, ◌+◌, ◌≤◌, Bool, true, false, cond, eqb, ltb, ◌⊎◌, List, [], ◌∷◌, ◌++◌, length, Ok, Err, Result, sym, refl, ap, ◌∙◌, inl, inr, ⊎_elim, arith}
 use Rattle.std.proofs.lemmas.Bool.{eqb-true, cond-true, cond-false, cases_Bool}
-use Rattle.std.specs.List.{AllByRecursion as All}
+use Rattle.std.specs.List.{AllByRecursion}
 use Rattle.refusals.specs.declared.Refusal.{Refusal}
 use Rattle.refusals.specs.declared.Refusal.TheVariants.{Truncated, OutOfOrder}
 use Rattle.values.specs.BigEndian.{Bytes}
@@ -38,7 +38,7 @@ module _ {A : Type 0} (absent : A → Bool) (field_of : ℕ → A → List ℕ) 
   abbrev First : ℕ → ℕ → List ℕ → Type 0
   First at c bs = (bs ≡ []) ⊎ ((f : Told A) × (told at bs ≡ Ok f) × (c ≤ f.column))
 
-  first_field : (at c : ℕ) (xs : List A) → c + length xs ≡ 24 → All good xs → First at c (fields c xs)
+  first_field : (at c : ℕ) (xs : List A) → c + length xs ≡ 24 → AllByRecursion good xs → First at c (fields c xs)
   first_field at c [] e h = inl refl
   first_field at c (a ∷ xs) e h = split (first_field at (c + 1) xs (omega arith) h.1)
     where
@@ -53,7 +53,7 @@ module _ {A : Type 0} (absent : A → Bool) (field_of : ℕ → A → List ℕ) 
   pass n c at bs first =
       ⊎_elim (λ (p : bs ≡ []). rw p refl) (λ q. turn_later told nothing kind.at_end n c at bs q.0 q.1 (omega (arith, q.2))) first
 
-  pub reads_back : (n c at : ℕ) (xs : List A) → length xs ≡ n → c + n ≡ 24 → All good xs → read n c at (fields c xs) ≡ Ok xs
+  pub reads_back : (n c at : ℕ) (xs : List A) → length xs ≡ n → c + n ≡ 24 → AllByRecursion good xs → read n c at (fields c xs) ≡ Ok xs
   unfolding rising
   reads_back zero c at [] l e h = refl
   reads_back (suc n) c at [] l e h = absurd (omega arith)
@@ -73,7 +73,7 @@ module _ {A : Type 0} (absent : A → Bool) (field_of : ℕ → A → List ℕ) 
 
   pub record Wrote (n c : ℕ) (bs : List ℕ) (xs : List A) : Type 0 where
     pub wide : length xs ≡ n
-    pub each : All good xs
+    pub each : AllByRecursion good xs
     pub is : fields c xs ≡ bs
 
   front_of : (a : A) (r : Result (List A) Refusal) (xs : List A) → in_front a r ≡ Ok xs → (ys : List A) × (r ≡ Ok ys) × (xs ≡ a ∷ ys)

@@ -3,7 +3,7 @@ use Rattle.std.proofs.Common.{◌≡◌, ℕ, ◌+◌, ◌*◌, ◌<◌, ◌≤�
 use Rattle.std.proofs.ByRecursion.{All-get_or, All-from_get_or}
 use Rattle.std.proofs.lemmas.List.{get_or_past, length-append}
 use Rattle.std.proofs.lemmas.Bool.{cases_lt, cases_Bool, cond-true, cond-false}
-use Rattle.std.specs.List.{AllByRecursion as All}
+use Rattle.std.specs.List.{AllByRecursion}
 use Rattle.dvvset.specs.Clock.{State, LegalState, column_at, no_writes}
 use Rattle.formats.specs.Frames.{unwritten, column_field, rising_fields, fields_length, frame}
 use Rattle.formats.specs.Reading.{column_told, reading}
@@ -13,15 +13,15 @@ use Rattle.formats.proofs.Columns.{Good, kind, length-body}
 use Rattle.formats.proofs.Whole.{whole_reads, whole_written, fields_short}
 
 module _ {V : Type 0} {width : ℕ} {bytes_of : V → List ℕ} {value_of : List ℕ → V} {valid : V → Type 0} (code : Code width bytes_of value_of valid) where
-  columns_good : (S : State V) → LegalState S → Fit valid S → All (Good valid) S
+  columns_good : (S : State V) → LegalState S → Fit valid S → AllByRecursion (Good valid) S
   columns_good S legal fit = All-from_get_or (Good valid) S no_writes (λ c h. record { legal = legal.each c; fit = fit c })
 
-  column_good : (S : State V) → All (Good valid) S → (c : ℕ) → Good valid (column_at S c)
+  column_good : (S : State V) → AllByRecursion (Good valid) S → (c : ℕ) → Good valid (column_at S c)
   column_good S each c =
       ⊎_elim (λ (h : c < length S). All-get_or (Good valid) S c no_writes h each) (λ (h : length S ≤ c). rw (get_or_past S c no_writes h) (kind code).nothing_good) (cases_lt c (length S))
 
   -- how long the fields are
-  length_fields : (c : ℕ) (S : State V) → All (Good valid) S → length (rising_fields unwritten (column_field bytes_of) c S) ≡ fields_length width S
+  length_fields : (c : ℕ) (S : State V) → AllByRecursion (Good valid) S → length (rising_fields unwritten (column_field bytes_of) c S) ≡ fields_length width S
   length_fields c [] h = refl
   length_fields c (a ∷ S) h =
       length-append (cond (unwritten a) [] (column_field bytes_of c a)) (rising_fields unwritten (column_field bytes_of) (c + 1) S)

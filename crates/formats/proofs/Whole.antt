@@ -2,7 +2,7 @@
 use Rattle.std.proofs.Common.{◌≡◌, ℕ, ◌+◌, ◌*◌, ◌≤◌, Bool, cond, eqb, leb, List, [], ◌∷◌, ◌++◌, length, get_or, Ok, Result, sym, refl, ap, ◌∙◌, mul-zero, mul-suc, arith}
 use Rattle.std.proofs.lemmas.List.{length-append}
 use Rattle.std.proofs.lemmas.Bool.{le-leb, leb-true, eqb-true, cond_both}
-use Rattle.std.specs.List.{AllByRecursion as All}
+use Rattle.std.specs.List.{AllByRecursion}
 use Rattle.refusals.specs.declared.Refusal.{Refusal}
 use Rattle.refusals.specs.declared.Refusal.TheVariants.{WrongLength, OutOfRange}
 use Rattle.values.specs.BigEndian.{Bytes}
@@ -41,14 +41,14 @@ module _ {A : Type 0} (absent : A → Bool) (field_of : ℕ → A → List ℕ) 
   abbrev read : List ℕ → Result (Keyed (List A)) Refusal
   read bs = then (head due 0 bs) (λ h. then (rising told nothing 24 0 4 h.rest) (λ xs. Ok (record { key = h.key; what = xs })))
 
-  pub whole_reads : (key : ℕ) (xs : List A) → key ≤ 15 → length xs ≡ 24 → All good xs → read (whole key xs) ≡ Ok (record { key = key; what = xs })
+  pub whole_reads : (key : ℕ) (xs : List A) → key ≤ 15 → length xs ≡ 24 → AllByRecursion good xs → read (whole key xs) ≡ Ok (record { key = key; what = xs })
   whole_reads key xs low wide each =
       then_goes _ _ _ _ (head_written due 0 key (rising_fields absent field_of 0 xs) low) (then_goes _ _ _ _ (reads_back absent field_of told nothing good kind 24 0 4 xs wide refl each) refl)
 
   pub record Whole (bs : List ℕ) (key : ℕ) (xs : List A) : Type 0 where
     pub low : key ≤ 15
     pub wide : length xs ≡ 24
-    pub each : All good xs
+    pub each : AllByRecursion good xs
     pub is : whole key xs ≡ bs
 
   moved : (bs : List ℕ) (j k : ℕ) (xs ys : List A) → j ≡ k → xs ≡ ys → Whole bs j xs → Whole bs k ys
@@ -64,7 +64,7 @@ module _ {A : Type 0} (absent : A → Bool) (field_of : ℕ → A → List ℕ) 
       let x : v.0 ≡ xs = ap (λ q. q.what) (ok_same v.2) in
       moved bs u.0.key key v.0 xs k x (record { low = h.1; wide = w.wide; each = w.each; is = ap (λ d. head_field due u.0.key ++ d) w.is ∙ sym h.0 })
 
-  pub fields_short : (m : ℕ) → ((c : ℕ) (a : A) → good a → length (field_of c a) ≤ m) → (c : ℕ) (xs : List A) → All good xs → length (rising_fields absent field_of c xs) ≤ m * length xs
+  pub fields_short : (m : ℕ) → ((c : ℕ) (a : A) → good a → length (field_of c a) ≤ m) → (c : ℕ) (xs : List A) → AllByRecursion good xs → length (rising_fields absent field_of c xs) ≤ m * length xs
   fields_short m short c [] h = omega (arith, mul-zero m)
   fields_short m short c (a ∷ xs) h =
       let f = cond (absent a) [] (field_of c a) in

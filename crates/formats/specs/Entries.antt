@@ -1,6 +1,6 @@
 -- Entries, each a key and its frame, as a journal keeps them and an archive holds them. Assumes nothing.
 use Rattle.std.specs.Prelude.{◌≡◌, ℕ, zero, suc, ◌+◌, ◌≤◌, Bool, true, cond, ◌&&◌, List, [], ◌∷◌, ◌++◌, length, drop, Some, None, Ok, Option, Result, ◌==◌, nat_le, slice_index_or}
-use Rattle.std.specs.List.{flat_map, AllByRecursion as All}
+use Rattle.std.specs.List.{flat_map, AllByRecursion}
 use Rattle.refusals.specs.declared.Refusal.{Refusal}
 use Rattle.refusals.specs.declared.Refusal.TheVariants.{WrongLength, OutOfRange, ShortMemory}
 use Rattle.values.specs.BigEndian.{Bytes}
@@ -79,7 +79,7 @@ pub record Holds (bs : List ℕ) (es : List Entry) : Type 0 where
   pub rest : List ℕ
   pub is : bs ≡ flat_map entry_field es ++ rest
   pub ended : ends rest ≡ true
-  pub fit : All Fit es
+  pub fit : AllByRecursion Fit es
 
 pub record OneLog : Type 0 where
   pub of_entries : (bs : List ℕ) (es : List Entry) → Holds bs es → entries bs ≡ Ok es

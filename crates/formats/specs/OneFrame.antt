@@ -1,6 +1,6 @@
 -- One frame for each state, and one state for each frame. Assumes nothing.
 use Rattle.std.specs.Prelude.{◌≡◌, ℕ, ◌+◌, ◌*◌, ◌≤◌, List, length, Ok, slice_index}
-use Rattle.std.specs.List.{AllByRecursion as All}
+use Rattle.std.specs.List.{AllByRecursion}
 use Rattle.values.specs.BigEndian.{Bytes}
 use Rattle.dvvset.specs.Limits.{columns, last_counter}
 use Rattle.dvvset.specs.Clock.{State, LegalState, column_at}
@@ -9,7 +9,7 @@ use Rattle.formats.specs.Reading.{reading, context_reading}
 
 -- every value fits its machine type
 abbrev pub Fit : {V : Type 0} → (V → Type 0) → State V → Type 0
-Fit valid S = (c : ℕ) → All valid (column_at S c).values
+Fit valid S = (c : ℕ) → AllByRecursion valid (column_at S c).values
 
 pub record OneFrame {V : Type 0} (width : ℕ) (bytes_of : V → List ℕ) (value_of : List ℕ → V) (valid : V → Type 0) : Type 0 where
   -- the frame of a legal state reads as that state

@@ -2,7 +2,7 @@
 use Rattle.std.proofs.Common.{◌≡◌, ℕ, zero, suc, ◌+◌, ◌-◌, ◌<◌, ◌≤◌, min, max, Bool, true, false, cond, eqb, List, [], ◌∷◌, ◌++◌, map, length, take, sym, refl, ap, ◌∙◌, subst, ⊎_elim, add-one, arith, length-take}
 use lib.ListN.{length-map}
 use lib.Seq.{take-nil}
-use Rattle.std.specs.List.{AllByRecursion as All}
+use Rattle.std.specs.List.{AllByRecursion}
 use Rattle.std.proofs.ByRecursion.{All-append, All-push, All-weaker}
 use Rattle.std.proofs.lemmas.Bool.{eqb-true, eqb-false, eq-eqb, ne_eqb, and_parts, and_from, and_cases, cond-true, cond-false, cases_lt, cases_eq, both_ways, or_left, or_right}
 use Rattle.history.specs.Shown.{sibling}
@@ -58,7 +58,7 @@ module _ {V : Type 0} where
     pub within : (c : ℕ) → highest c ws ≤ highest c H
     pub same : (c k : ℕ) → suc k ≤ highest c ws → the c (suc k) ws ≡ the c (suc k) H
     pub all : (c k : ℕ) → suc k ≤ highest c cs → among c (suc k) cs ≡ true
-    pub real : All (Named H) ws
+    pub real : AllByRecursion (Named H) ws
 
   module _ (H : List (Write V)) (full : Full H) where
     pub one : (ws cs : List (Write V)) → Sound H ws cs → (c k : ℕ) → suc k ≤ highest c ws → length (the c (suc k) ws) ≡ 1
@@ -177,7 +177,7 @@ module _ {V : Type 0} where
         go true e = refl
         go false e = full c k (not_next c (suc k) (highest c H) (λ p. ap (λ x. highest x H) (sym p)) e l)
 
-    named_old : (ws : List (Write V)) → All (Named H) ws → All (Named (next o v H ∷ H)) ws
+    named_old : (ws : List (Write V)) → AllByRecursion (Named H) ws → AllByRecursion (Named (next o v H ∷ H)) ws
     named_old ws = All-weaker (Named H) (Named (next o v H ∷ H)) one_old ws
       where
         one_old : (w : Write V) → Named H w → Named (next o v H ∷ H) w

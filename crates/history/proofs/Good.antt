@@ -1,6 +1,6 @@
 -- What every call keeps true of the machine's world. Assumes nothing.
 use Rattle.std.proofs.Common.{◌≡◌, ℕ, ◌+◌, ◌*◌, ◌<◌, ◌≤◌, max, Bool, true, false, cond, eqb, ltb, List, [], ◌∷◌, ◌++◌, Some, None, Option, sym, refl, ap, ◌∙◌, subst, arith}
-use Rattle.std.specs.List.{ContainsAt as Has, AllByRecursion as All}
+use Rattle.std.specs.List.{ContainsAt as Has, AllByRecursion}
 use Rattle.std.proofs.ByRecursion.{All-weaker, all-has, all_has_itself, All-append, has_append_left}
 use Rattle.std.proofs.lemmas.Bool.{eqb-true, eqb-false, eq-eqb, ne_eqb, ltb-true, ltb-false, cond-true, cond-false, cond_both}
 use Rattle.dvvset.specs.Limits.{columns, last_counter}
@@ -63,7 +63,7 @@ module _ {V : Type 0} where
   -- a set of a key with the writes H, of the first n calls, with the events E
   pub record Fit (H : List (Write V)) (E : ℕ → Event V) (n : ℕ) (K : Events V) : Type 0 where
     pub sound : SoundSet H K
-    pub traced : All (Own E n) K
+    pub traced : AllByRecursion (Own E n) K
 
   abbrev pub FitGift : (ℕ → List (Write V)) → (ℕ → Event V) → ℕ → Gift V → Type 0
   FitGift H E n no_gift = Unit {0}
@@ -352,7 +352,7 @@ module _ {V : Type 0} where
 
   -- ---- each call
 
-  traced_join : (E : ℕ → Event V) (n : ℕ) (K C : Events V) (x : Option (Write V)) → All (Own E (n + 1)) K → All (Own E (n + 1)) C → E n ≡ record { made_at = n; write = x; covers = writes C } → All (Own E (n + 1)) (join n K C x)
+  traced_join : (E : ℕ → Event V) (n : ℕ) (K C : Events V) (x : Option (Write V)) → AllByRecursion (Own E (n + 1)) K → AllByRecursion (Own E (n + 1)) C → E n ≡ record { made_at = n; write = x; covers = writes C } → AllByRecursion (Own E (n + 1)) (join n K C x)
   traced_join E n K C x p q e = All-append (Own E (n + 1)) (K ++ C) _ (All-append (Own E (n + 1)) K C p q) ((e, omega arith), tt)
 
   module _ (bytes_of : V → List ℕ) (w : World V) (good : Good w) where

@@ -1,6 +1,6 @@
 -- One key: what deliver, delete and put make of a set of events, merge, discard and put make of what it shows. Assumes nothing.
 use Rattle.std.proofs.Common.{◌≡◌, ℕ, ◌+◌, ◌-◌, ◌<◌, ◌≤◌, min, max, Bool, true, false, cond, eqb, List, [], ◌∷◌, ◌++◌, map, length, set, Some, None, Option, sym, refl, ap, ◌∙◌, subst, ap₂, ⊎_elim, append-nil, arith, length-take}
-use Rattle.std.specs.List.{ContainsAt as Has, AllByRecursion as All}
+use Rattle.std.specs.List.{ContainsAt as Has, AllByRecursion}
 use Rattle.std.proofs.lemmas.List.{take-map, get_or_past}
 use Rattle.std.proofs.lemmas.List.FromFn.{length-map-range_with_len}
 use Rattle.std.proofs.lemmas.Bool.{eqb-false, eq-eqb, ne_eqb, cond-true, cond-false, cases_eq, cases_lt}
@@ -51,7 +51,7 @@ module _ {V : Type 0} where
     siblings_is K g = dotted-columns (shown_column K) ∙ joined_same _ _ each_column (siblings_column K g) ∙ sym (map-joined sibling (λ c. newest c (held K)) each_column)
 
     -- sets with the same members
-    pub same_members : (K L : Events V) → SoundSet H K → SoundSet H L → All (Has L) K → All (Has K) L → shown K ≡ shown L
+    pub same_members : (K L : Events V) → SoundSet H K → SoundSet H L → AllByRecursion (Has L) K → AllByRecursion (Has K) L → shown K ≡ shown L
     unfolding shown
     same_members K L g h p q = map_same _ _ each_column each
       where

@@ -1,6 +1,6 @@
 -- The siblings of a set of events are the writes that it holds. Assumes nothing.
 use Rattle.std.proofs.Common.{◌≡◌, ℕ, zero, suc, ◌-◌, ◌<◌, ◌≤◌, Bool, true, false, cond, not, eqb, List, [], ◌∷◌, ◌++◌, sym, refl, ap, ◌∙◌, subst, ⊎_elim, zero-add, arith}
-use Rattle.std.specs.List.{ContainsAt as Has, flat_map, AllByRecursion as All}
+use Rattle.std.specs.List.{ContainsAt as Has, flat_map, AllByRecursion}
 use Rattle.std.proofs.lemmas.List.FromFn.{get_or-range_with_len}
 use Rattle.std.proofs.ByRecursion.{All-append, All-weaker, all-has, all_has_itself, all_kept_by, kept_by_passes, has_append_left, has_append_right, has_get_or}
 use Rattle.std.proofs.lemmas.Bool.{cond-true, cond-false, eq-eqb, not-true, cases_lt}
@@ -14,11 +14,11 @@ use Rattle.history.proofs.Keys.{SoundSet}
 pub has_here : {A : Type 0} (x : A) (xs : List A) → Has (x ∷ xs) x
 has_here x xs = (0, omega arith, λ d. refl)
 
-all-joined : {X A : Type 0} (P : A → Type 0) (f : X → List A) (xs : List X) → ((x : X) → All P (f x)) → All P (flat_map f xs)
+all-joined : {X A : Type 0} (P : A → Type 0) (f : X → List A) (xs : List X) → ((x : X) → AllByRecursion P (f x)) → AllByRecursion P (flat_map f xs)
 all-joined P f [] h = tt
 all-joined P f (x ∷ xs) h = All-append P (f x) (flat_map f xs) (h x) (all-joined P f xs h)
 
-all_each : {X A : Type 0} (f : X → List A) (a : A) (xs : List X) → All (λ x. Has (f x) a → Has (flat_map f xs) a) xs
+all_each : {X A : Type 0} (f : X → List A) (a : A) (xs : List X) → AllByRecursion (λ x. Has (f x) a → Has (flat_map f xs) a) xs
 all_each f a [] = tt
 all_each f a (x ∷ xs) = (has_append_left (f x) (flat_map f xs) a, All-weaker (λ y. Has (f y) a → Has (flat_map f xs) a) (λ y. Has (f y) a → Has (f x ++ flat_map f xs) a) (λ y h p. has_append_right (f x) (flat_map f xs) a (h p)) xs (all_each f a xs))
 
@@ -26,15 +26,15 @@ column_has : (c : ℕ) → c < columns → Has each_column c
 column_has c l = subst (Has each_column) (get_or-range_with_len 0 columns c 0 l ∙ zero-add c) (has_get_or each_column c 0 l)
 
 module _ {V : Type 0} where
-  the_member : (c n : ℕ) (ws : List (Write V)) → All (Has ws) (the c n ws)
+  the_member : (c n : ℕ) (ws : List (Write V)) → AllByRecursion (Has ws) (the c n ws)
   the_member c n [] = tt
   the_member c n (w ∷ ws) = go (has_dot c n w) (the_member c n ws)
     where
-      go : (b : Bool) → All (Has ws) (the c n ws) → All (Has (w ∷ ws)) (cond b (w ∷ []) (the c n ws))
+      go : (b : Bool) → AllByRecursion (Has ws) (the c n ws) → AllByRecursion (Has (w ∷ ws)) (cond b (w ∷ []) (the c n ws))
       go true ih = (has_here w ws, tt)
       go false ih = All-weaker (Has ws) (Has (w ∷ ws)) (λ x h. has_append_right (w ∷ []) ws x h) (the c n ws) ih
 
-  down_member : (c n : ℕ) (ws : List (Write V)) → All (Has ws) (down c n ws)
+  down_member : (c n : ℕ) (ws : List (Write V)) → AllByRecursion (Has ws) (down c n ws)
   down_member c zero ws = tt
   down_member c (suc n) ws = All-append (Has ws) (the c (suc n) ws) (down c n ws) (the_member c (suc n) ws) (down_member c n ws)
 
@@ -44,7 +44,7 @@ module _ {V : Type 0} where
       ⊎_elim (λ (p : m < n). has_append_right (the c (suc n) ws) (down c n ws) x (down_has c n m ws x p h))
       (λ (p : n ≤ m). let e : m ≡ n = omega arith in has_append_left (the c (suc n) ws) (down c n ws) x (subst (λ i. Has (the c (suc i) ws) x) e h)) (cases_lt m n)
 
-  counter_below : (ws : List (Write V)) → All (λ w. w.counter ≤ highest w.column ws) ws
+  counter_below : (ws : List (Write V)) → AllByRecursion (λ w. w.counter ≤ highest w.column ws) ws
   counter_below [] = tt
   counter_below (w ∷ ws) =
       let r = cond-true (eqb w.column w.column) w.counter 0 (eq-eqb w.column w.column refl) in

@@ -1,6 +1,6 @@
 -- The machine does what one expects of it. Assumes nothing.
 use Rattle.std.proofs.Common.{◌≡◌, ℕ, zero, suc, ◌+◌, ◌-◌, ◌<◌, ◌≤◌, max, Bool, true, false, cond, not, ◌&&◌, eqb, ltb, List, [], ◌∷◌, ◌++◌, map, length, take, Some, None, filter, sym, refl, ap, ◌∙◌, subst, ap₂, ⊎_elim, append-nil, zero-add, arith}
-use Rattle.std.specs.List.{range_with_len, ContainsAt as Has, flat_map, AllByRecursion as All}
+use Rattle.std.specs.List.{range_with_len, ContainsAt as Has, flat_map, AllByRecursion}
 use Rattle.std.proofs.ByRecursion.{All-weaker, all-has, all_has_itself, All-append, has_append_left, has_append_right, has_push}
 use Rattle.std.proofs.lemmas.Bool.{eq-eqb, ne_eqb, lt-ltb, and_from, not_from_false, cond-true, cond-false, cases_eq}
 use Rattle.dvvset.specs.declared.writes.Dot.{Dot}
@@ -23,15 +23,15 @@ use Rattle.history.proofs.Runs.{after-append, after_push, calls_after, good-afte
 
 -- ---- members
 
-has_kept_by : {A : Type 0} (p : A → Bool) (xs : List A) → All (λ x. p x ≡ true → Has (filter p xs) x) xs
+has_kept_by : {A : Type 0} (p : A → Bool) (xs : List A) → AllByRecursion (λ x. p x ≡ true → Has (filter p xs) x) xs
 has_kept_by p [] = tt
 has_kept_by {A} p (x ∷ xs) = go (p x) refl (has_kept_by p xs)
   where
-    go : (b : Bool) → p x ≡ b → All (λ y. p y ≡ true → Has (filter p xs) y) xs → All (λ y. p y ≡ true → Has (cond b (x ∷ filter p xs) (filter p xs)) y) (x ∷ xs)
+    go : (b : Bool) → p x ≡ b → AllByRecursion (λ y. p y ≡ true → Has (filter p xs) y) xs → AllByRecursion (λ y. p y ≡ true → Has (cond b (x ∷ filter p xs) (filter p xs)) y) (x ∷ xs)
     go true e ih = (λ f. has_here x (filter p xs), All-weaker (λ y. p y ≡ true → Has (filter p xs) y) (λ y. p y ≡ true → Has (x ∷ filter p xs) y) (λ y h f. has_append_right (x ∷ []) (filter p xs) y (h f)) xs ih)
     go false e ih = (λ f. let z : ◌≡◌ {A = ℕ} 0 1 = cc in absurd (omega arith), ih)
 
-has_map : {A B : Type 0} (f : A → B) (xs : List A) → All (λ x. Has (map f xs) (f x)) xs
+has_map : {A B : Type 0} (f : A → B) (xs : List A) → AllByRecursion (λ x. Has (map f xs) (f x)) xs
 has_map f [] = tt
 has_map f (x ∷ xs) = (has_here (f x) (map f xs), All-weaker (λ y. Has (map f xs) (f y)) (λ y. Has (f x ∷ map f xs) (f y)) (λ y h. has_append_right (f x ∷ []) (map f xs) (f y) h) xs (has_map f xs))
 

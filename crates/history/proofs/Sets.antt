@@ -1,7 +1,7 @@
 -- What a union of writes has: `highest` goes to `max`, `among` to `◌||◌`, and `the` to the first that has one. Assumes nothing.
 use Rattle.std.proofs.Common.{◌≡◌, ℕ, zero, suc, ◌+◌, ◌-◌, ◌<◌, ◌≤◌, max, Bool, true, false, cond, not, ◌||◌, eqb, List, [], ◌∷◌, ◌++◌, length, take, sym, refl, ap, ◌∙◌, ⊎_elim, append_assoc, arith, length-append}
 use lib.Seq.{take-nil, take-append-add}
-use Rattle.std.specs.List.{flat_map, ContainsAt as Has, AllByRecursion as All}
+use Rattle.std.specs.List.{flat_map, ContainsAt as Has, AllByRecursion}
 use Rattle.std.proofs.ByRecursion.{All-weaker, all-has}
 use Rattle.std.proofs.lemmas.Bool.{eqb-true, and_parts, cond-true, cond-false, cases_lt}
 use Rattle.std.proofs.lemmas.Bool.Decides.{nat_tests}
@@ -133,19 +133,19 @@ module _ {V : Type 0} where
 
   -- ---- sets: what the members alone decide
 
-  highest_member : (f : Event V → List (Write V)) (c : ℕ) (L : Events V) → All (λ e. highest c (f e) ≤ highest c (flat_map f L)) L
+  highest_member : (f : Event V → List (Write V)) (c : ℕ) (L : Events V) → AllByRecursion (λ e. highest c (f e) ≤ highest c (flat_map f L)) L
   highest_member f c [] = tt
   highest_member f c (e ∷ L) =
       (omega (arith, highest-++ c (f e) (flat_map f L)), All-weaker (λ x. highest c (f x) ≤ highest c (flat_map f L)) (λ x. highest c (f x) ≤ highest c (f e ++ flat_map f L)) (λ x h. omega (arith, highest-++ c (f e) (flat_map f L))) L (highest_member f c L))
 
-  highest_subset : (f : Event V → List (Write V)) (c : ℕ) (K L : Events V) → All (Has L) K → highest c (flat_map f K) ≤ highest c (flat_map f L)
+  highest_subset : (f : Event V → List (Write V)) (c : ℕ) (K L : Events V) → AllByRecursion (Has L) K → highest c (flat_map f K) ≤ highest c (flat_map f L)
   highest_subset f c [] L h = omega arith
   highest_subset f c (e ∷ K) L h =
       let one = all-has (λ x. highest c (f x) ≤ highest c (flat_map f L)) L e (highest_member f c L) h.0 in
       omega (arith, highest-++ c (f e) (flat_map f K), highest_subset f c K L h.1)
 
-  pub writes_subset : (c : ℕ) (K L : Events V) → All (Has L) K → highest c (writes K) ≤ highest c (writes L)
+  pub writes_subset : (c : ℕ) (K L : Events V) → AllByRecursion (Has L) K → highest c (writes K) ≤ highest c (writes L)
   writes_subset = highest_subset (λ e. as_list e.write)
 
-  pub covered_subset : (c : ℕ) (K L : Events V) → All (Has L) K → highest c (covered K) ≤ highest c (covered L)
+  pub covered_subset : (c : ℕ) (K L : Events V) → AllByRecursion (Has L) K → highest c (covered K) ≤ highest c (covered L)
   covered_subset = highest_subset (λ e. e.covers)

@@ -1,6 +1,6 @@
 -- The theorem: whatever list of calls is made, dotted version vector sets answer as the plain machine does, and are what it shows. Assumes nothing.
 use Rattle.std.specs.Prelude.{◌≡◌, ℕ, ◌+◌, ◌*◌, ◌<◌, ◌≤◌, false, List, [], ◌∷◌, ◌++◌, slice_index_or}
-use Rattle.std.specs.List.{ContainsAt as Has, AllByRecursion as All}
+use Rattle.std.specs.List.{ContainsAt as Has, AllByRecursion}
 use Rattle.dvvset.specs.Clock.{LegalState}
 use Rattle.history.specs.Events.{Write, Event, Events, writes, held, highest, in_order}
 use Rattle.history.specs.Calls.{Receipt, Call, save, sent, done, misnamed}
@@ -10,7 +10,7 @@ use Rattle.history.specs.Clocks.{ClockWorld, clock_after, clock_answers, clock_s
 
 -- each element of xs is one of ys
 abbrev pub Within : {A : Type 0} → List A → List A → Type 0
-Within xs ys = All (Has ys) xs
+Within xs ys = AllByRecursion (Has ys) xs
 
 abbrev pub SameMembers : {A : Type 0} → List A → List A → Type 0
 SameMembers xs ys = Within xs ys × Within ys xs

@@ -2,7 +2,7 @@
 use Rattle.std.proofs.Common.{◌≡◌, ℕ, ◌+◌, ◌-◌, ◌<◌, ◌≤◌, min, Bool, true, false, cond, ◌&&◌, eqb, List, [], ◌∷◌, ◌++◌, length, get_or, take, drop, set, Some, None, Option, sym, refl, ap, ◌∙◌, subst, ⊎_elim, arith}
 use Rattle.std.proofs.lemmas.List.{drop_all, length-drop, take_all, length-take-le, take_more, take_more_set}
 use Rattle.std.proofs.lemmas.Bool.{and_parts, cases_lt, false≢true}
-use Rattle.std.specs.List.{AllByRecursion as All}
+use Rattle.std.specs.List.{AllByRecursion}
 use Rattle.std.specs.Option.{option_map, option_or}
 use Rattle.media.specs.declared.orders.Order.{Order}
 use Rattle.media.specs.declared.orders.Answer.{Answer}
@@ -93,7 +93,7 @@ ran_more {newest} {newest'} {newest''} {left} {left'} {left''} {ts} {t} r d =
 
 -- ---- what was accepted is not short
 
-pub last_found : {A : Type 0} (test : A → Bool) (Q : A → Type 0) (xs : List A) → All (λ y. test y ≡ true → Q y) xs → (x : A) → last_where test xs ≡ Some x → Q x
+pub last_found : {A : Type 0} (test : A → Bool) (Q : A → Type 0) (xs : List A) → AllByRecursion (λ y. test y ≡ true → Q y) xs → (x : A) → last_where test xs ≡ Some x → Q x
 last_found test Q [] g x e = absurd (let z : ◌≡◌ {A = ℕ} 0 1 = cc in omega arith)
 last_found {A} test Q (y ∷ ys) g x e = go (last_where test ys) refl (test y) refl e (last_found test Q ys g.1)
   where
@@ -109,7 +109,7 @@ accepted_some left t a was = go t.answer was a.0
     go (Accepted n) y e = (bounds t.key (length t.frame) left e).some
     go (Refused r) y e = absurd (false≢true y)
 
-all_some : (k left : ℕ) (ts : List Tried) → AllAnswered left ts → All (λ t. counts k t ≡ true → 4 ≤ length t.frame) ts
+all_some : (k left : ℕ) (ts : List Tried) → AllAnswered left ts → AllByRecursion (λ t. counts k t ≡ true → 4 ≤ length t.frame) ts
 all_some k left [] a = tt
 all_some k left (t ∷ ts) a = (λ c. accepted_some left t a.0 (and_parts (eqb k t.key) (is_accepted t.answer) c).1, all_some k (left - took t.answer) ts a.1)
 

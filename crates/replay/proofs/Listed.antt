@@ -1,6 +1,6 @@
 -- A key has never more siblings than cells, so a list of all its cells always holds them. Assumes nothing.
 use Rattle.std.proofs.Common.{◌≡◌, ℕ, suc, ◌+◌, ◌-◌, ◌*◌, ◌<◌, ◌≤◌, true, cond, ◌&&◌, leb, List, [], ◌∷◌, ◌++◌, length, get_or, take, drop, refl, ap, arith}
-use Rattle.std.specs.List.{AllByRecursion as All}
+use Rattle.std.specs.List.{AllByRecursion}
 use Rattle.std.proofs.ByRecursion.{All-from_get_or}
 use Rattle.std.proofs.lemmas.List.{length-append, length-take}
 use Rattle.std.proofs.lemmas.Bool.{and_from, cond-true, le-leb}
@@ -20,7 +20,7 @@ module _ {V : Type 0} where
   abbrev Few : ColumnState V → Type 0
   Few a = length a.values ≤ 4
 
-  few_from : (c : ℕ) (S : State V) → All Few S → length (siblings_from c S) ≤ 4 * length S
+  few_from : (c : ℕ) (S : State V) → AllByRecursion Few S → length (siblings_from c S) ≤ 4 * length S
   few_from c [] h = omega arith
   few_from c (a ∷ S) h =
       let rest = few_from (c + 1) S h.1 in

@@ -1,6 +1,6 @@
 -- What a save leaves of the media of the seats. Assumes nothing.
 use Rattle.std.specs.Prelude.{◌≡◌, ℕ, ◌<◌, ◌≤◌, List, Err, Result, slice_index_or, slice_set}
-use Rattle.std.specs.List.{AllByRecursion as All}
+use Rattle.std.specs.List.{AllByRecursion}
 use Rattle.refusals.specs.declared.Refusal.{Refusal}
 use Rattle.refusals.specs.declared.Refusal.TheVariants.{NoSuchSeatOrKey}
 use Rattle.media.specs.Media.{Fresh, Saved}
@@ -8,7 +8,7 @@ use Rattle.media.specs.Slots.{frames_of, slots_left}
 use Rattle.media.specs.declared.slot.Slots.{Slots}
 
 abbrev pub AllFresh : List Slots → Type 0
-AllFresh ms = All (λ m. Fresh (frames_of m.slots) slots_left) ms
+AllFresh ms = AllByRecursion (λ m. Fresh (frames_of m.slots) slots_left) ms
 
 -- One medium replaced, by what the save makes of it.
 pub record Keeps (seat key : ℕ) (frame : List ℕ) (ms ms' : List Slots) (r : Result (Unit {0}) Refusal) : Type 0 where

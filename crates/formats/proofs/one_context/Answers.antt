@@ -2,7 +2,7 @@ use Rattle.std.proofs.Common.{ℕ, ◌<◌, ◌≤◌, Bool, eqb, List, length, 
 use Rattle.std.proofs.ByRecursion.{All-get_or, All-from_get_or}
 use Rattle.std.proofs.lemmas.List.{get_or_past}
 use Rattle.std.proofs.lemmas.Bool.{cases_lt}
-use Rattle.std.specs.List.{AllByRecursion as All}
+use Rattle.std.specs.List.{AllByRecursion}
 use Rattle.formats.specs.Frames.{top_field, context_frame}
 use Rattle.formats.specs.Reading.{top_told, context_reading}
 use Rattle.formats.proofs.Tops.{kind}
@@ -15,7 +15,7 @@ absent t = eqb t 0
 abbrev Good : ℕ → Type 0
 Good t = t ≤ 999999
 
-low : (C : List ℕ) → All Good C → (c : ℕ) → get_or C c 0 ≤ 999999
+low : (C : List ℕ) → AllByRecursion Good C → (c : ℕ) → get_or C c 0 ≤ 999999
 low C each c = ⊎_elim (λ (h : c < length C). All-get_or Good C c 0 h each) (λ (h : length C ≤ c). omega (arith, get_or_past C c 0 h)) (cases_lt c (length C))
 
 pub returns : goal.returns
