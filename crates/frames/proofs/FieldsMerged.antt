@@ -1,8 +1,8 @@
 -- A column's field merged into a row and its cells. Assumes nothing.
-use Rattle.std.proofs.Common.{◌≡◌, ℕ, ◌+◌, ◌-◌, ◌<◌, ◌≤◌, min, true, ◌&&◌, leb, List, ◌++◌, length, take, sym, refl, ap, ◌∙◌, arith}
+use Rattle.std.proofs.Common.{◌≡◌, ℕ, ◌+◌, ◌-◌, ◌<◌, ◌≤◌, min, true, List, ◌++◌, length, take, ap, ◌∙◌, arith}
 use Rattle.std.proofs.lemmas.List.{take_all, take-append-le}
 use Rattle.std.proofs.lemmas.Bool.{le-leb, and_from, cond-true}
-use Rattle.dvvset.specs.Clock.{ColumnState, merge_column}
+use Rattle.dvvset.specs.Clock.{merge_column}
 use Rattle.clock.specs.Memory.{sound, top_of, count_of, column}
 use Rattle.clock.specs.declared.rows.Row.{Row}
 use Rattle.clock.proofs.One.{merge-left, merge_right}

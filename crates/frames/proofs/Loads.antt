@@ -1,10 +1,10 @@
 -- A frame loaded in the place of a state. Assumes nothing.
-use Rattle.std.proofs.Common.{◌≡◌, ℕ, true, List, drop, Ok, Err, Result, sym, refl, ap, ◌∙◌, arith}
+use Rattle.std.proofs.Common.{◌≡◌, ℕ, true, List, drop, Ok, Err, Result, refl, ap, ◌∙◌, arith}
 use Rattle.std.proofs.lemmas.Bool.{cond-true}
 use Rattle.refusals.specs.declared.Refusal.{Refusal}
 use Rattle.refusals.specs.declared.Refusal.TheVariants.{ShortMemory}
 use Rattle.values.specs.BigEndian.{Bytes}
-use Rattle.dvvset.specs.Clock.{State, Outcome, accepted, refused, blank, merge}
+use Rattle.dvvset.specs.Clock.{State, accepted, refused, blank, merge}
 use Rattle.dvvset.proofs.States.{merge-blank}
 use Rattle.clock.specs.Calls.{Leaves}
 use Rattle.clock.specs.Memory.{roomy, state}

@@ -1,19 +1,19 @@
 -- A walk that merges each column of a checked frame into a state. Assumes nothing.
-use Rattle.std.proofs.Common.{◌≡◌, ℕ, suc, ◌+◌, ◌-◌, ◌*◌, ◌<◌, ◌≤◌, true, List, [], length, get_or, take, drop, set, replicate, is_ok, Ok, Err, Result, sym, refl, ap, ◌∙◌, ⊎_elim, arith}
+use Rattle.std.proofs.Common.{◌≡◌, ℕ, suc, ◌+◌, ◌-◌, ◌*◌, ◌<◌, ◌≤◌, true, List, length, get_or, take, drop, set, is_ok, Ok, Err, Result, sym, refl, ap, ◌∙◌, ⊎_elim, arith}
 use borrow.Rule.Slice.PartMut.{put_mid}
 use Rattle.std.proofs.lemmas.List.{length-drop, drop_all, drop-drop, drop-set-lt, get_or-drop, get_or-replicate}
 use Rattle.std.proofs.lemmas.Slice.{drop-put_mid}
 use Rattle.std.proofs.lemmas.Bool.{cases_lt}
 use Rattle.refusals.specs.declared.Refusal.{Refusal}
-use Rattle.dvvset.specs.Clock.{ColumnState, State, no_writes, merge, merge_column}
+use Rattle.dvvset.specs.Clock.{State, no_writes, merge, merge_column}
 use Rattle.dvvset.proofs.Merging.{merge_nothing}
 use Rattle.dvvset.proofs.Zips.{upto, upto_more, upto_all, upto_skip}
 use Rattle.clock.specs.Memory.{column, no_row, state}
 use Rattle.clock.specs.declared.rows.Row.{Row}
 use Rattle.clock.proofs.Whole.{length-state, read-column, state_legal, state-put}
-use Rattle.formats.specs.Reading.{Keyed, Told, then, head, column_of, column_told, reading, rising, values_of}
+use Rattle.formats.specs.Reading.{Keyed, then, head, column_of, column_told, reading, rising, values_of}
 use Rattle.formats.proofs.Steps.{ok_same, then_ok}
-use Rattle.formats.proofs.Walking.{walk_end, walk_found, walk_refused, walk_past, walk_wide}
+use Rattle.formats.proofs.Walking.{walk_end, walk_found, walk_refused, walk_past}
 use Rattle.cursor.specs.Seen.{a_column, column_seen}
 use Rattle.cursor.proofs.Founds.{column-found, column_refused, head_rest}
 use Rattle.frames.specs.Taking.{state_read}

@@ -1,12 +1,12 @@
 -- A walk over the columns of a frame, by what the cursor tells. Assumes nothing.
-use Rattle.std.proofs.Common.{◌≡◌, ℕ, suc, ◌+◌, ◌-◌, ◌<◌, ◌≤◌, List, [], length, get_or, drop, Ok, Err, Result, sym, refl, ap, ◌∙◌, arith}
+use Rattle.std.proofs.Common.{◌≡◌, ℕ, suc, ◌+◌, ◌-◌, ◌<◌, ◌≤◌, List, length, drop, Ok, Err, Result, sym, refl, ap, ◌∙◌, arith}
 use Rattle.std.proofs.lemmas.List.{length-drop, drop_all, drop-drop}
 use Rattle.refusals.specs.declared.Refusal.{Refusal}
 use Rattle.refusals.specs.declared.Refusal.TheVariants.{OutOfOrder}
 use Rattle.dvvset.specs.Clock.{ColumnState, State, no_writes}
 use Rattle.formats.specs.Reading.{Head, Told, then, head, column_of, column_told, rising, values_of, verdict, key_of, reading}
 use Rattle.formats.proofs.Steps.{ok_same, then_ok}
-use Rattle.formats.proofs.Walking.{Walked, walk_end, walk_refused, walk_past, walk_verdict, walk_found}
+use Rattle.formats.proofs.Walking.{walk_end, walk_refused, walk_past, walk_verdict}
 use Rattle.cursor.specs.Seen.{a_column, column_seen, shown}
 use Rattle.cursor.specs.declared.fields.Field.{Field}
 use Rattle.cursor.proofs.Founds.{FoundColumn, column-found, column_refused, head_rest}

@@ -1,7 +1,7 @@
 -- Values and fields written one after the other. Assumes nothing.
-use Rattle.std.proofs.Common.{◌≡◌, ℕ, zero, suc, ◌+◌, ◌-◌, ◌*◌, ◌<◌, ◌≤◌, Bool, true, cond, ◌&&◌, eqb, leb, List, [], ◌∷◌, ◌++◌, length, get_or, take, drop, Ok, sym, refl, ap, ◌∙◌, mul-suc, add-one, arith}
+use Rattle.std.proofs.Common.{◌≡◌, ℕ, zero, suc, ◌+◌, ◌*◌, ◌<◌, ◌≤◌, true, cond, ◌&&◌, eqb, leb, List, [], ◌∷◌, ◌++◌, length, get_or, take, drop, Ok, sym, ap, ◌∙◌, mul-suc, add-one, arith}
 use borrow.Rule.Slice.PartMut.{put_mid}
-use Rattle.std.proofs.lemmas.List.{length-append, length-take, length-drop, take_all, take_more, flat_map_more, take_at, take-append-drop, drop_at, drop-drop, drop_all, append-nil, append_assoc}
+use Rattle.std.proofs.lemmas.List.{length-take, length-drop, take_all, take_more, flat_map_more, take_at, take-append-drop, drop_at, drop-drop, drop_all, append-nil, append_assoc}
 use Rattle.std.proofs.lemmas.Bool.{and_from, cond-true, cond-false, eq-eqb, le-leb, ne_eqb}
 use Rattle.refusals.specs.declared.Refusal.TheVariants.{NoSuchSeatOrKey, ShortMemory}
 use Rattle.std.specs.List.{flat_map, AllByRecursion as All}

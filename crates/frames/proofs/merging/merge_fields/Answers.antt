@@ -1,4 +1,4 @@
-use Rattle.std.proofs.Common.{◌≡◌, ℕ, ◌+◌, ◌-◌, ◌*◌, ◌≤◌, length, drop, Ok, sym, refl, ap, ◌∙◌, arith, rules}
+use Rattle.std.proofs.Common.{ℕ, ◌+◌, ◌-◌, ◌*◌, length, drop, refl, ap, ◌∙◌, arith, rules}
 use Rattle.std.proofs.lemmas.List.{length-take, length-drop}
 use Rattle.cursor.specs.Seen.{shown, span, column_seen}
 use Rattle.cursor.proofs.Founds.{column-found}
@@ -9,6 +9,9 @@ use Rattle.frames.proofs.Walks.{here_seen}
 use Rattle.frames.proofs.Merges.{starts, never_refused, finished, onward}
 use Rattle.frames.proofs.merging.merge_fields.Goals as goal
 
+pub invariant_of-cursor : goal.invariant_of-cursor
+invariant_of-cursor g c = record { within = (starts g.V.Value.width g.V.Value.value_of c.args.frame.now c.requires.frame).0 }
+
 pub walk-init : goal.walk-init
 walk-init g c =
     let s = starts g.V.Value.width g.V.Value.value_of c.args.frame.now c.requires.frame in
@@ -17,7 +20,7 @@ walk-init g c =
 pub unreachable-requires : goal.unreachable-requires
 unreachable-requires g c =
     let w = g.V.Value.width in
-    let at = c.walk.cursor.1.0 in
+    let at = c.walk.cursor.at in
     let frame = c.args.frame.now in
     let wide = walk_wide (column_told w g.V.Value.value_of) no_writes (λ p. refl) 24 0 4 (drop 4 frame) _ (starts w g.V.Value.value_of frame c.requires.frame).1 in
     let h = c.in-Err.ensures.value ∙ ap (λ d. column_seen w at (drop at d)) c.walk.invariant.0 in
@@ -25,21 +28,21 @@ unreachable-requires g c =
 
 pub merge_field-requires : goal.merge_field-requires
 merge_field-requires g c =
-    let at = c.walk.cursor.1.0 in
+    let at = c.walk.cursor.at in
     let f = (column-found g.V.Value.width at (drop at c.args.frame.now) _ _ _ _ _ (here_seen g.V.Value.width at _ c.args.frame.now _ _ c.in-Column.is c.in-Ok.ensures.value c.walk.invariant.0)).1 in
     let low = f.low in
     record { cells = simp (length-take, length-drop) (omega arith); few = f.few; within = f.within; low = f.top_low; values = f.long }
 
 pub bounds-rows-c : goal.bounds-rows-c
 bounds-rows-c g c =
-    let at = c.walk.cursor.1.0 in
+    let at = c.walk.cursor.at in
     let f = (column-found g.V.Value.width at (drop at c.args.frame.now) _ _ _ _ _ (here_seen g.V.Value.width at _ c.args.frame.now _ _ c.in-Column.is c.in-Ok.ensures.value c.walk.invariant.0)).1 in
     omega (arith, f.low)
 
 pub walk-preserved : goal.walk-preserved
 walk-preserved g c =
     let w = g.V.Value.width in
-    let at = c.walk.cursor.1.0 in
+    let at = c.walk.cursor.at in
     let frame = c.args.frame.now in
     let f = c.in-Column in
     let j : ℕ = f.column in

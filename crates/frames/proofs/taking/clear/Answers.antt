@@ -1,5 +1,5 @@
-use Rattle.std.proofs.Common.{◌≡◌, ℕ, ◌*◌, ◌<◌, ◌≢◌, length, get_or, drop, sym, ap, ◌∙◌, arith, below_more}
-use Rattle.std.proofs.lemmas.List.{drop-set-lt, ext_get_or, get_or-replicate, get_or-set_other, get_or-set_same, length-replicate}
+use Rattle.std.proofs.Common.{◌*◌, ◌<◌, ◌≢◌, drop, sym, ap, ◌∙◌, arith, below_more}
+use Rattle.std.proofs.lemmas.List.{drop-set-lt, ext_get_or, get_or-replicate, get_or-set_other, get_or-set_same}
 use Rattle.dvvset.specs.Clock.{no_writes, blank}
 use Rattle.clock.specs.Memory.{column, no_row, state}
 use Rattle.clock.proofs.Whole.{get_or-state, length-state}

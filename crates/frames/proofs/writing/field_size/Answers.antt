@@ -1,4 +1,4 @@
-use Rattle.std.proofs.Common.{◌≡◌, ◌+◌, ◌*◌, ◌≤◌, eqb, sym, ap, ◌∙◌, mul-le-mul_left, arith}
+use Rattle.std.proofs.Common.{◌+◌, ◌*◌, eqb, sym, ap, ◌∙◌, mul-le-mul_left, arith}
 use Rattle.std.proofs.lemmas.Bool.{cond-false, ne_eqb}
 use Rattle.clock.specs.Memory.{count_of, top_of}
 use Rattle.frames.proofs.writing.field_size.Goals as goal
