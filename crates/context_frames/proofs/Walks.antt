@@ -3,7 +3,7 @@ use Rattle.std.proofs.Common.{◌≡◌, ℕ, zero, suc, ◌+◌, ◌-◌, ◌<�
 use Rattle.std.proofs.lemmas.List.{append_assoc, drop_all, drop_at, drop-drop, length-append, length-drop, length-replicate, length-take-le, set-append_right, take-append-drop, take_at}
 use Rattle.std.proofs.lemmas.Bool.{leb-true, eqb-true, and_parts}
 use Rattle.refusals.specs.declared.Refusal.{Refusal}
-use Rattle.refusals.specs.declared.Refusal.TheVariants.{Truncated, OutOfOrder, WrongLength, OutOfRange}
+use Rattle.refusals.specs.declared.Refusal.TheVariants.{OutOfOrder, WrongLength, OutOfRange}
 use Rattle.values.specs.BigEndian.{from_bytes}
 use Rattle.dvvset.proofs.Lists.{bounded_set}
 use Rattle.formats.specs.Reading.{Head, Keyed, Told, then, in_front, rising, tagged, head, top_told, context_reading}
