@@ -4,7 +4,7 @@ use borrow.Rule.Slice.PartMut.{put_mid}
 use Rattle.std.proofs.lemmas.List.{length-take, length-drop, take_all, take_more, flat_map_more, take_at, take-append-drop, drop_at, drop-drop, drop_all, append-nil, append_assoc}
 use Rattle.std.proofs.lemmas.Bool.{and_from, cond-true, cond-false, eq-eqb, le-leb, ne_eqb}
 use Rattle.refusals.specs.declared.Refusal.TheVariants.{NoSuchSeatOrKey, ShortMemory}
-use Rattle.std.specs.List.{flat_map, AllByRecursion as All}
+use Rattle.std.specs.List.{flat_map, AllByRecursion}
 use Rattle.dvvset.specs.Clock.{State, accepted, after, answer, no_writes, refused}
 use Rattle.clock.specs.Calls.{in_room}
 use Rattle.clock.specs.Memory.{column, count_of, no_row, roomy, state, top_of}
@@ -56,7 +56,7 @@ module _ {V : Type 0} (w : ℕ) where
 -- ---- one field, in its place
 
 -- a column without a top: nothing is written
-pub nothing_written : {V : Type 0} (valid : V → Type 0) (row : Row) (cells : List V) (out field : List ℕ) (at size : ℕ) → top_of row ≡ 0 → (at ≡ at + cond (eqb (top_of row) 0) 0 size) × (out ≡ take at out ++ (cond (eqb (top_of row) 0) [] field ++ drop at out)) × All valid (take (count_of row) cells)
+pub nothing_written : {V : Type 0} (valid : V → Type 0) (row : Row) (cells : List V) (out field : List ℕ) (at size : ℕ) → top_of row ≡ 0 → (at ≡ at + cond (eqb (top_of row) 0) 0 size) × (out ≡ take at out ++ (cond (eqb (top_of row) 0) [] field ++ drop at out)) × AllByRecursion valid (take (count_of row) cells)
 nothing_written valid row cells out field at size t =
     let e = eq-eqb (top_of row) 0 t in
     let n : count_of row ≡ 0 = omega (arith, (bounds row).0) in

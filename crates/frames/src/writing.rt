@@ -1,6 +1,6 @@
 // The frame of a key's state, written to the front of lent memory.
 ghost use Rattle.std.specs.Prelude.{◌≡◌, ◌+◌, ◌*◌, ◌<◌, ◌≤◌, List, [], ◌∷◌, ◌++◌, length, take, drop, if◌then◌else◌, OnOk, nat_eq};
-ghost use Rattle.std.specs.List.{flat_map, AllByRecursion as All};
+ghost use Rattle.std.specs.List.{flat_map, AllByRecursion};
 ghost use Rattle.values.specs.BigEndian.{to_bytes};
 ghost use Rattle.clock.specs.Memory.{column, count_of, state, top_of};
 ghost use Rattle.dvvset.specs.Clock.{after, answer};
@@ -40,7 +40,7 @@ fn frame_size<V: Value>(rows: &[Row]) -> usize
 fn write_values<V: Value>(values: &[V], out: &mut [u8])
     requires { V.Value.width * length values.now ≤ length out.old }
     ensures after { out.new ≡ flat_map V.Value.bytes_of values.now ++ drop (V.Value.width * length values.now) out.old }
-    ensures valid { All V.Value.valid values.now }
+    ensures valid { AllByRecursion V.Value.valid values.now }
 {
     let w = V::width();
     let mut at = 0;
@@ -69,7 +69,7 @@ fn write_column<V: Value>(c: u8, a: Column, values: &[V], out: &mut [u8])
     requires values { length values.now ≡ a.count }
     requires out { 9 + V.Value.width * a.count ≤ length out.old }
     ensures after { out.new ≡ column_field V.Value.bytes_of c (record { top = a.top; values = values.now }) ++ drop (9 + V.Value.width * a.count) out.old }
-    ensures valid { All V.Value.valid values.now }
+    ensures valid { AllByRecursion V.Value.valid values.now }
 {
     let body = 6 + V::width() * a.count as usize;
     write_column_head(body as u16, c, a, out);
@@ -93,7 +93,7 @@ fn write_field<V: Value>(c: u8, row: Row, cells: &[V], out: &mut [u8], at: usize
     requires room { at + (if nat_eq (top_of row) 0 then 0 else 9 + V.Value.width * count_of row) ≤ length out.old }
     ensures at { result ≡ at + (if nat_eq (top_of row) 0 then 0 else 9 + V.Value.width * count_of row) }
     ensures out { out.new ≡ take at out.old ++ ((if nat_eq (top_of row) 0 then [] else column_field V.Value.bytes_of c (column row cells.now)) ++ drop result out.old) }
-    ensures valid { All V.Value.valid (take (count_of row) cells.now) }
+    ensures valid { AllByRecursion V.Value.valid (take (count_of row) cells.now) }
 {
     let a = Column::of(row);
     if a.top == 0 {

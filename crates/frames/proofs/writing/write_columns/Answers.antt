@@ -1,7 +1,7 @@
 use Rattle.std.proofs.Common.{◌≡◌, ℕ, ◌+◌, ◌-◌, ◌*◌, ◌<◌, ◌≤◌, ◌++◌, length, take, drop, sym, refl, ap, ◌∙◌, subst, ⊎_elim, arith, below_more}
 use Rattle.std.proofs.lemmas.List.{append_assoc, get_or_past, length-drop, length-take}
 use Rattle.std.proofs.lemmas.Bool.{cases_lt}
-use Rattle.std.specs.List.{AllByRecursion as All}
+use Rattle.std.specs.List.{AllByRecursion}
 use Rattle.dvvset.specs.Clock.{column_at, no_writes}
 use Rattle.clock.specs.Memory.{state}
 use Rattle.clock.proofs.Whole.{length-state, read-column}
@@ -34,7 +34,7 @@ loop-c-preserved g c =
     let nf = next-fields v.bytes_of rows cells i k lt four in
     let fb = field-behind (P ++ F) c.loop-c.out out c.write_field-at.new.out _ c.loop-c.at c.write_field-at.result c.loop-c.invariant.1 c.loop-c.invariant.2 c.write_field-at.ensures.out (omega arith) (omega arith) c.write_field-at.auto.out in
     let e = append_assoc P F _ ∙ ap (λ x. P ++ x) (sym nf) in
-    let here : All v.valid (column_at S i).values = subst (λ a. All v.valid a.values) (read-column rows cells i k no_writes lt four) c.write_field-at.ensures.valid in
+    let here : AllByRecursion v.valid (column_at S i).values = subst (λ a. AllByRecursion v.valid a.values) (read-column rows cells i k no_writes lt four) c.write_field-at.ensures.valid in
     (ends ∙ sm, ap length (sym e) ∙ fb.0, fb.1 ∙ ap (λ x. x ++ drop c.write_field-at.result out) e, below_more _ _ c.loop-c.invariant.3 here)
 
 pub returns : goal.returns
@@ -47,5 +47,5 @@ returns g c =
     let at = c.loop-c.invariant.0 ∙ size-all v.width rows cells c.loop-c.c c.loop-c-test.false in
     record {
       out = c.loop-c.invariant.2 ∙ ap (λ F. (take 4 out ++ F) ++ drop c.loop-c.at out) (all-fields v.bytes_of rows cells c.loop-c.c c.loop-c-test.false) ∙ ap (λ n. (take 4 out ++ rising_fields unwritten (column_field v.bytes_of) 0 S) ++ drop n out) at;
-      fit = λ i. ⊎_elim (λ (h : i < 24). c.loop-c.invariant.3 i (omega arith)) (λ (h : 24 ≤ i). subst (λ a. All v.valid a.values) (sym (get_or_past S i no_writes (omega (arith, length-state rows cells)))) tt) (cases_lt i 24);
+      fit = λ i. ⊎_elim (λ (h : i < 24). c.loop-c.invariant.3 i (omega arith)) (λ (h : 24 ≤ i). subst (λ a. AllByRecursion v.valid a.values) (sym (get_or_past S i no_writes (omega (arith, length-state rows cells)))) tt) (cases_lt i 24);
     }

@@ -1,7 +1,7 @@
 use Rattle.std.proofs.Common.{◌≡◌, ◌+◌, ◌-◌, ◌≤◌, [], ◌∷◌, ◌++◌, length, take, drop, sym, ap, ◌∙◌, arith, length-append}
 use Rattle.std.proofs.ByRecursion.{All-append}
 use Rattle.std.proofs.lemmas.List.{take_all, take_more}
-use Rattle.std.specs.List.{flat_map, AllByRecursion as All}
+use Rattle.std.specs.List.{flat_map, AllByRecursion}
 use Rattle.frames.proofs.ValuesRead.{row_fits}
 use Rattle.frames.proofs.Writes.{row_more, joined_take_more, length_mid, wrote_more}
 use Rattle.frames.proofs.writing.write_values.Goals as goal
@@ -28,7 +28,7 @@ loop-v-preserved g c =
     let wm = wrote_more J c.loop-v.out out c.write_to.new.out (code.bytes_of x) mid at ((at + w) - at) code.width c.loop-v.invariant.2 c.loop-v.invariant.3 k c.write_to.ensures.memory lm in
     let we = c.width-w.ensures in
     let tm = take_more xs i x c.loop-v-test.true ∙ ap (λ y. take i xs ++ y ∷ []) (sym c.v-item.is) in
-    let all : All code.valid (take (i + 1) xs) = rw tm (All-append code.valid (take i xs) (x ∷ []) c.loop-v.invariant.4 (c.write_to.ensures.valid, tt)) in
+    let all : AllByRecursion code.valid (take (i + 1) xs) = rw tm (All-append code.valid (take i xs) (x ∷ []) c.loop-v.invariant.4 (c.write_to.ensures.valid, tt)) in
     (omega arith, omega (arith, row_more code.width i), ap length jm ∙ length-append J (code.bytes_of x) ∙ omega arith, (cc), all)
 
 pub returns : goal.returns
