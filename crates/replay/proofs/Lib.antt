@@ -1,4 +1,3 @@
 pub mod Printing
-pub mod Finding
 pub mod Listed
 pub mod Told

@@ -1,5 +1,5 @@
 -- What a get tells and a send gives, from what the calls below answer. Assumes nothing.
-use Rattle.std.proofs.Common.{◌≡◌, ℕ, ◌<◌, ◌≤◌, Bool, true, false, cond, ◌&&◌, leb, List, ◌++◌, length, get_or, take, drop, Ok, Err, Result, sym, refl, ap, ◌∙◌, ⊎_elim, arith}
+use Rattle.std.proofs.Common.{◌≡◌, ℕ, ◌<◌, ◌≤◌, true, false, ◌&&◌, leb, List, ◌++◌, length, get_or, take, drop, Ok, Err, Result, sym, ap, ◌∙◌, ⊎_elim, arith}
 use Rattle.std.proofs.lemmas.List.{take_at}
 use Rattle.std.proofs.lemmas.Bool.{and_from, and_parts, cases_Bool, cond-true, cond-false, le-leb, leb-true}
 use Rattle.refusals.specs.declared.Refusal.{Refusal}
@@ -10,7 +10,7 @@ use Rattle.dvvset.specs.Clock.{accepted, answer, after, context, refused}
 use Rattle.dvvset.specs.Listing.{siblings}
 use Rattle.dvvset.specs.declared.writes.Sibling.{Sibling}
 use Rattle.dvvset.proofs.Lists.{get_d_any}
-use Rattle.clock.specs.Memory.{roomy, shape, state}
+use Rattle.clock.specs.Memory.{roomy, shape}
 use Rattle.clock.specs.Calls.{contexts, listing}
 use Rattle.clock.specs.declared.rows.Row.{Row}
 use Rattle.clock.proofs.Whole.{state_legal}

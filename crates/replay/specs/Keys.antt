@@ -1,5 +1,5 @@
 -- What the calls leave of the states of the seats. Assumes nothing.
-use Rattle.std.specs.Prelude.{◌≡◌, ℕ, ◌*◌, Bool, true, false, cond, ◌&&◌, List, ◌++◌, take, drop, replicate, pos, Err, Result, MatchResult, slice_index_or, slice_set}
+use Rattle.std.specs.Prelude.{◌≡◌, ℕ, ◌*◌, Bool, true, false, cond, List, ◌++◌, take, drop, replicate, pos, Err, Result, MatchResult, slice_index_or, slice_set}
 use Rattle.refusals.specs.declared.Refusal.{Refusal}
 use Rattle.refusals.specs.declared.Refusal.TheVariants.{NoSuchSeatOrKey}
 use Rattle.values.specs.declared.setting.Setting.{Setting}

@@ -1,5 +1,5 @@
 -- What a call leaves of a session. Assumes nothing.
-use Rattle.std.specs.Prelude.{◌≡◌, ℕ, ◌+◌, ◌^◌, ◌<◌, List, [], ◌∷◌, ◌++◌, replicate, IfErr, None, vec_items, Result}
+use Rattle.std.specs.Prelude.{◌≡◌, ℕ, ◌+◌, ◌^◌, ◌<◌, List, [], ◌∷◌, replicate, IfErr, None, vec_items, Result}
 use Rattle.clock.specs.declared.contexts.Context.{Context}
 use Rattle.replay.specs.Gifts.{given}
 use Rattle.replay.specs.Keys.{no_state}
