@@ -6,8 +6,8 @@ use Rattle.refusals.specs.declared.Refusal.TheVariants.{NoSuchSeatOrKey, ShortMe
 use Rattle.refusals.specs.Refusals.{offset}
 use Rattle.values.specs.Layouts.{setting_bytes, setting_of}
 use Rattle.values.specs.declared.setting.Setting.{Setting}
-use Rattle.dvvset.specs.Clock.{Outcome, State, accepted, after, answer, merge, no_writes, refused}
-use Rattle.clock.specs.Calls.{Leaves, in_room}
+use Rattle.dvvset.specs.Clock.{State, accepted, after, answer, merge, no_writes, refused}
+use Rattle.clock.specs.Calls.{in_room}
 use Rattle.clock.specs.Memory.{roomy, state}
 use Rattle.clock.specs.declared.rows.Row.{Row}
 use Rattle.clock.proofs.Whole.{state_legal}
@@ -16,7 +16,7 @@ use Rattle.formats.specs.Reading.{Keyed, column_told, key_of, head, reading, ris
 use Rattle.formats.proofs.Offsets.{length_most, near_frame}
 use Rattle.formats.proofs.Steps.{ok_same, then_ok}
 use Rattle.cursor.proofs.Founds.{head_rest}
-use Rattle.frames.specs.Taking.{accepting, loading_frame, merging_frame, writing_frame}
+use Rattle.frames.specs.Taking.{accepting, writing_frame}
 use Rattle.host.specs.Merging.{first_read, joined, laid, merging_frames, second_read}
 
 -- a refusal of a check points into the frame

@@ -1,6 +1,6 @@
-use Rattle.std.proofs.Common.{◌≡◌, true, sym, refl, ap, ◌∙◌, arith}
+use Rattle.std.proofs.Common.{true, sym, refl, ap, ◌∙◌}
 use Rattle.dvvset.specs.Clock.{after, answer, merge}
-use Rattle.clock.specs.Memory.{roomy, state}
+use Rattle.clock.specs.Memory.{roomy}
 use Rattle.host.proofs.Both.{first_refused, kept_room, merged, refused_there, second_refused, taken, taking_near}
 use Rattle.host.proofs.merging.merge_frames.Goals as goal
 
