@@ -1,5 +1,5 @@
 -- What the bytes of a journal mean, and what a save makes of them. Assumes nothing.
-use Rattle.std.specs.Prelude.{ℕ, ◌+◌, ◌-◌, List, [], ◌∷◌, ◌++◌, length, take, drop, Some, None, Ok, Err, Option, Result, nat_eq}
+use Rattle.std.specs.Prelude.{ℕ, ◌+◌, ◌-◌, List, [], ◌∷◌, ◌++◌, length, take, drop, Some, Ok, Err, Option, Result, nat_eq}
 use Rattle.std.specs.Option.{option_map, option_or}
 use Rattle.refusals.specs.declared.Refusal.{Refusal}
 use Rattle.formats.specs.Reading.{then}

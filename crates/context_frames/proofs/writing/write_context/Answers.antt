@@ -5,7 +5,7 @@ use Rattle.context_frames.proofs.writing.write_context.Goals as goal
 
 pub returns-then-out-size : goal.returns-then-out-size
 returns-then-out-size c =
-    let o = too_short c.args.key c.context_size-size.result c.args.context.now.tops c.args.out.now (omega arith) c.context_size-size.ensures c.if-out-size.true in
+    let o = too_short c.args.key c.context_size-size.result c.args.context.now.tops c.args.out.now (omega arith) c.context_size-size.ensures (omega arith) in
     record { answer = sym (ap answer o); out = sym (ap (after c.args.out.now) o) }
 
 pub returns : goal.returns

@@ -1,4 +1,4 @@
-use Rattle.std.proofs.Common.{◌≡◌, ℕ, List, length, drop, Some, None, Ok, Option, sym, ap, ◌∙◌, subst, arith}
+use Rattle.std.proofs.Common.{ℕ, List, length, drop, Some, None, Ok, Option, sym, ap, ◌∙◌, subst, arith}
 use Rattle.cursor.specs.Seen.{entry_seen}
 use Rattle.media.specs.Media.{behind}
 use Rattle.journal.specs.Journals.{walked}
