@@ -1,10 +1,10 @@
 -- The laws of a column's merge. Assumes nothing.
-use Rattle.std.proofs.Common.{◌≡◌, ℕ, ◌+◌, ◌-◌, ◌<◌, ◌≤◌, min, max, leb, List, [], ◌∷◌, map, length, get_or, take, sym, refl, ap, ◌∙◌, ⊎_elim, arith}
+use Rattle.std.proofs.Common.{◌≡◌, ℕ, ◌+◌, ◌-◌, ◌<◌, ◌≤◌, min, max, leb, List, [], ◌∷◌, map, length, take, sym, refl, ap, ◌∙◌, ⊎_elim, arith}
 use lib.Seq.{take-nil}
 use Rattle.std.proofs.lemmas.List.{length-take, length-map, get_or-take, take-map, take_all}
 use Rattle.std.proofs.lemmas.Bool.{le-leb, lt-leb, cond-true, cond-false, cases_lt, cases_order}
 use Rattle.dvvset.specs.Clock.{ColumnState, Legal, no_writes, first, merge_column}
-use Rattle.dvvset.specs.Laws.{Holds, Agree, mapped}
+use Rattle.dvvset.specs.Laws.{Agree, mapped}
 use Rattle.dvvset.proofs.Lists.{take_min, pointwise, alike}
 
 module _ {V : Type 0} where

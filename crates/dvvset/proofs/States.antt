@@ -1,6 +1,6 @@
 -- Merges of whole states. Assumes nothing.
-use Rattle.std.proofs.Common.{◌≡◌, ℕ, ◌<◌, min, length, get_or, replicate, sym, ap, ◌∙◌, arith}
-use Rattle.std.proofs.lemmas.List.{ext_get_or, get_or-replicate, length-replicate}
+use Rattle.std.proofs.Common.{◌≡◌, ◌<◌, min, length, get_or, ap, ◌∙◌, arith}
+use Rattle.std.proofs.lemmas.List.{ext_get_or, get_or-replicate}
 use Rattle.dvvset.specs.Clock.{State, LegalState, blank, merge, merge_column, no_writes}
 use Rattle.dvvset.proofs.Merging.{nothing_merge}
 use Rattle.dvvset.proofs.Zips.{get_d_zip, length_zip}

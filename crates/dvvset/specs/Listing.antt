@@ -1,6 +1,6 @@
 -- The siblings of a key: by rising column, newest first. Assumes nothing.
 use Rattle.std.specs.Prelude.{ℕ, ◌+◌, ◌-◌, List, [], ◌∷◌, ◌++◌}
-use Rattle.dvvset.specs.Clock.{ColumnState, State}
+use Rattle.dvvset.specs.Clock.{State}
 use Rattle.dvvset.specs.declared.writes.Sibling.{Sibling}
 
 -- the values of the counters n, n - 1, .. of column c, under their dots

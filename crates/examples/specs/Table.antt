@@ -1,5 +1,5 @@
 -- The table of worked examples. Assumes nothing.
-use Rattle.std.specs.Prelude.{◌≡◌, ℕ, List, [], ◌∷◌, Some, None, Ok, Err, Option, slice_set}
+use Rattle.std.specs.Prelude.{◌≡◌, ℕ, List, [], ◌∷◌, Some, None, Ok, Err, slice_set}
 use Rattle.refusals.specs.declared.Refusal.TheVariants.{TooManySiblings, CounterExhausted, OutOfRange}
 use Rattle.dvvset.specs.Limits.{owned}
 use Rattle.dvvset.specs.Clock.{ColumnState, State, answer, after, blank, no_context, column_at, merge_column, discard_column, put}

@@ -3,10 +3,9 @@ use Rattle.std.proofs.Common.{◌≡◌, ℕ, ◌+◌, ◌<◌, Bool, true, fals
 use Rattle.std.proofs.lemmas.Bool.{and_parts, ltb-true, cond_both}
 use Rattle.refusals.specs.declared.Refusal.{Refusal}
 use Rattle.refusals.specs.declared.Refusal.TheVariants.{MediumFull}
-use Rattle.dvvset.specs.declared.writes.Dot.{Dot}
 use Rattle.dvvset.specs.Limits.{most_siblings, last_counter}
-use Rattle.history.specs.Events.{Write, Events, writes, outside, held, highest, newest}
-use Rattle.history.specs.Calls.{Context, Receipt, Call, get, put, delete, send, deliver, save, restart, Answer, wrote, got, sent, done, refused_by, misnamed, named, spendable, spend, set_key}
+use Rattle.history.specs.Events.{Events, writes, outside, held, highest, newest}
+use Rattle.history.specs.Calls.{Context, Receipt, Call, get, put, delete, send, deliver, save, restart, Answer, wrote, got, sent, done, refused_by, misnamed, named, spendable, spend}
 use Rattle.history.specs.Shown.{listing, frame_bytes, context_bytes}
 use Rattle.history.specs.Machine.{context_of, frame_of, World, own, learn, with_owed, hand_out, keep, wake, Step, to, context_for, frame_in, with_set, join, new_dot, put_world, step}
 

@@ -20,8 +20,7 @@ fn code_of(refusal: Refusal) -> u32
 }
 
 // 0 for the frame of a setting state, or the refusal's code.
-#[unsafe(no_mangle)]
-pub extern "C" fn zabrusko_check_frame(frame: &[u8]) -> u32
+pub fn zabrusko_check_frame(frame: &[u8]) -> u32
     ensures { result ≡ checked_code (key_of (reading 16 setting_of frame.now)) }
 {
     match check::<Setting>(frame) {
@@ -31,8 +30,7 @@ pub extern "C" fn zabrusko_check_frame(frame: &[u8]) -> u32
 }
 
 // The number of bytes written to the front of `out`, those beyond being untouched; or the refusal's code, with nothing written.
-#[unsafe(no_mangle)]
-pub extern "C" fn zabrusko_merge_frames(first: &[u8], second: &[u8], out: &mut [u8]) -> u32
+pub fn zabrusko_merge_frames(first: &[u8], second: &[u8], out: &mut [u8]) -> u32
     ensures answer { result ≡ merged_code (answer (merging_frames first.now second.now out.old)) }
     ensures out { out.new ≡ after out.old (merging_frames first.now second.now out.old) }
 {

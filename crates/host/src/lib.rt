@@ -1,4 +1,4 @@
-// The two calls for a display host written in C: on setting frames, as pointers and lengths.
+// The two calls for a display host written in C, on setting frames. The crate `host_c` gives them their names for C, as pointers and lengths.
 #![tactic(auto)]
 
 mod exports;
