@@ -7,10 +7,10 @@ mod calls;
 mod cockpit;
 mod history;
 mod labels;
-mod media;
 mod memory;
 mod parsing;
 mod playing;
+mod seat_media;
 mod session;
 
 use std::io;

@@ -5,8 +5,8 @@ ghost use Rattle.replay.specs.Sessions.{Fresh, Makes, NamesFrame, context_gift, 
 use crate::answers::{Answer, Outcome};
 use crate::calls::{Call, Spot};
 use crate::history::{Gift, History};
-use crate::media::NO_FRAME;
 use crate::memory::{Cockpit, Frame, Media};
+use crate::seat_media::NO_FRAME;
 use clock::Context;
 use dvvset::Dot;
 use refusals::Refusal;
