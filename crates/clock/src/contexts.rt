@@ -1,5 +1,5 @@
 // What a reader has seen of a key: the top of each of its 24 columns.
-ghost use Rattle.std.specs.Prelude.{◌≡◌, ℕ, ◌<◌, ◌≤◌, ◌&&◌, leb, length, replicate, if◌then◌else◌, Some, None, nat_le, slice_index, slice_set};
+ghost use Rattle.std.specs.Prelude.{◌≡◌, ℕ, ◌<◌, ◌≤◌, ◌&&◌, length, replicate, if◌then◌else◌, Some, None, nat_le, slice_index, slice_set};
 ghost use Rattle.std.specs.Option.{option_map};
 
 use crate::indices::ColumnIndex;
@@ -22,7 +22,7 @@ impl Context {
 
     // With another top for one column; none where the column is over 23 or the top over 999,999.
     pub fn with(self, column: u8, top: u32) -> Option<Context>
-        ensures { option_map (λ c. c.tops) result ≡ (if leb column 23 && nat_le top 999999 then Some (slice_set self.tops column top) else None) }
+        ensures { option_map (λ c. c.tops) result ≡ (if nat_le column 23 && nat_le top 999999 then Some (slice_set self.tops column top) else None) }
     {
         if column > 23 || top > 999_999 {
             return None;

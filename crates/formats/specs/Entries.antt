@@ -1,5 +1,5 @@
 -- Entries, each a key and its frame, as a journal keeps them and an archive holds them. Assumes nothing.
-use Rattle.std.specs.Prelude.{◌≡◌, ℕ, zero, suc, ◌+◌, ◌≤◌, Bool, true, cond, ◌&&◌, List, [], ◌∷◌, ◌++◌, length, drop, Some, None, Ok, Option, Result, ◌==◌, nat_le, slice_index_or}
+use Rattle.std.specs.Prelude.{◌≡◌, ℕ, zero, suc, ◌+◌, ◌≤◌, Bool, true, cond, ◌&&◌, List, [], ◌∷◌, ◌++◌, length, drop, Some, None, Ok, Option, Result, ◌==◌, nat_le, slice_index}
 use Rattle.std.specs.List.{flat_map, AllByRecursion}
 use Rattle.refusals.specs.declared.Refusal.{Refusal}
 use Rattle.refusals.specs.declared.Refusal.TheVariants.{WrongLength, OutOfRange, ShortMemory}
@@ -32,7 +32,7 @@ abbrev pub entry_told : ℕ → List ℕ → Result EntryTold Refusal
 entry_told at bs =
     then (tagged 16 at bs) (λ f.
     let n = length f.body in
-    let key = slice_index_or f.body 0 0 in
+    let key = slice_index f.body 0 in
     unless (WrongLength at) (nat_le 5 n && nat_le n 1757)
     (unless (OutOfRange at) (nat_le key 15)
     (Ok (record { entry = record { key = key; frame = drop 1 f.body }; next = at + (3 + n); rest = f.rest }))))

@@ -17,7 +17,7 @@ abbrev pub rising_fields : {A : Type 0} → (A → Bool) → (ℕ → A → List
 rising_fields absent field_of c [] = []
 rising_fields absent field_of c (a ∷ xs) = cond (absent a) [] (field_of c a) ++ rising_fields absent field_of (c + 1) xs
 
--- ---- state frames: bytesOf gives the bytes of one value
+-- ---- state frames: bytes_of gives the bytes of one value
 
 -- a column is absent where it has no top
 abbrev pub unwritten : {V : Type 0} → ColumnState V → Bool

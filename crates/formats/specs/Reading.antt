@@ -1,5 +1,5 @@
 -- What any bytes read as: a key with its state or context, or the first refusal, field by field from the left. Assumes nothing.
-use Rattle.std.specs.Prelude.{ℕ, zero, suc, ◌+◌, ◌*◌, Bool, cond, ◌&&◌, List, [], ◌∷◌, length, take, drop, Ok, Err, Result, ◌==◌, nat_le, nat_lt, slice_index_or}
+use Rattle.std.specs.Prelude.{ℕ, zero, suc, ◌+◌, ◌*◌, Bool, cond, ◌&&◌, List, [], ◌∷◌, length, take, drop, Ok, Err, Result, ◌==◌, nat_le, nat_lt, slice_index}
 use Rattle.refusals.specs.declared.Refusal.{Refusal}
 use Rattle.refusals.specs.declared.Refusal.TheVariants.{Truncated, UnexpectedTag, WrongLength, OutOfRange, OutOfOrder}
 use Rattle.values.specs.BigEndian.{from_bytes}
@@ -41,7 +41,7 @@ pub record Head : Type 0 where
 abbrev pub head : ℕ → ℕ → List ℕ → Result Head Refusal
 head due at bs =
     then (tagged due at bs) (λ f.
-    let key = slice_index_or f.body 0 0 in
+    let key = slice_index f.body 0 in
     unless (WrongLength at) (length f.body == 1) (unless (OutOfRange at) (nat_le key 15) (Ok (record { key = key; rest = f.rest }))))
 
 -- what a field says of its column, and the offset and the bytes that follow it
@@ -73,8 +73,8 @@ in_range c count top = nat_le c 23 && (nat_le count most_siblings && (nat_le cou
 abbrev pub raw_column : ℕ → ℕ → List ℕ → Result Raw Refusal
 raw_column w at bs =
     then (tagged 2 at bs) (λ f.
-    let c = slice_index_or f.body 0 0 in
-    let count = slice_index_or f.body 1 0 in
+    let c = slice_index f.body 0 in
+    let count = slice_index f.body 1 in
     let top = from_bytes (take 4 (drop 2 f.body)) in
     unless (WrongLength at) (nat_le 6 (length f.body))
     (unless (OutOfRange at) (in_range c count top)
@@ -92,7 +92,7 @@ column_told w value_of at bs = then (raw_column w at bs) (λ r. Ok (column_of w 
 abbrev pub top_told : ℕ → List ℕ → Result (Told ℕ) Refusal
 top_told at bs =
     then (tagged 4 at bs) (λ f.
-    let c = slice_index_or f.body 0 0 in
+    let c = slice_index f.body 0 in
     let top = from_bytes (drop 1 f.body) in
     unless (WrongLength at) (length f.body == 5)
     (unless (OutOfRange at) (nat_le c 23 && (nat_le 1 top && nat_le top last_counter))

@@ -128,7 +128,7 @@ put_at w s k C v =
     (cond (length (newest (own w s) (outside (writes C) (held (w.known s k)))) == most_siblings) (to w (refused_by TooManySiblings))
     (to (put_world w s k C v) (wrote (new_dot w s k))))
 
--- A refused or misnamed call changes nothing. `bytesOf` gives the bytes of a value.
+-- A refused or misnamed call changes nothing. `bytes_of` gives the bytes of a value.
 unfoldable pub step : {V : Type 0} → (V → List ℕ) → World V → Call V → Step V
 step bytes_of w (get s k) =
     cond (named s k) (to (hand_out w (context_of k (w.known s k))) (got (listing (w.known s k)) (context_bytes k (w.known s k)))) (to w misnamed)
