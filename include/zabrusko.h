@@ -1,5 +1,5 @@
 /* Zabrusko for a display host written in C: two calls on setting frames.
-   The archive libhost.a has them, and needs no other library (tests/host/run builds it).
+   The archive libhost.a has them, and needs nothing but the C library (tests/host/run builds it).
 
    A frame is the bytes of one key's state (docs/FRAMES.md). No call asks anything of the bytes; the pointers
    have to be valid for their lengths, and `out` may not overlap the frames.
