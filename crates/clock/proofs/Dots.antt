@@ -1,8 +1,9 @@
 -- The siblings and the tops of a state, column by column. Assumes nothing.
-use Rattle.std.proofs.Common.{◌≡◌, ℕ, zero, suc, ◌+◌, ◌-◌, ◌*◌, ◌<◌, ◌≤◌, List, [], ◌∷◌, ◌++◌, length, get_or, take, drop, set, sym, refl, ap, ◌∙◌, ⊎_elim, arith}
+use Rattle.std.proofs.Common.{◌≡◌, ℕ, zero, suc, ◌+◌, ◌-◌, ◌*◌, ◌<◌, ◌≤◌, List, [], ◌∷◌, ◌++◌, length, get_or, take, drop, set, sum_by, sym, refl, ap, ◌∙◌, ⊎_elim, arith}
 use lib.Seq.{paste}
-use Rattle.std.proofs.lemmas.List.{append-nil, append_assoc, length-append, length-map, length-take-le, get_or-map, get_or-take, take_all, get_or_past, ext_get_or}
+use Rattle.std.proofs.lemmas.List.{append-nil, append_assoc, length-append, length-map, get_or-map, take_all, get_or_past, ext_get_or}
 use Rattle.std.proofs.lemmas.List.Edits.{paste_more, paste_all, paste-paste}
+use Rattle.std.proofs.lemmas.List.Sums.{sum_by_more}
 use Rattle.std.proofs.lemmas.Bool.{cases_lt}
 use Rattle.dvvset.specs.Clock.{State, context, no_writes}
 use Rattle.dvvset.specs.Listing.{dotted, siblings, siblings_from}
@@ -31,20 +32,18 @@ module _ {V : Type 0} where
       ∙ sym (append_assoc (dotted a x.top x.values) (siblings_from (a + 1) (take i S)) _)
 
   -- the first columns have no more siblings than all
-  pub siblings_short : (a i : ℕ) (S : State V) → length (siblings_from a (take i S)) ≤ length (siblings_from a S)
+  siblings_short : (a i : ℕ) (S : State V) → length (siblings_from a (take i S)) ≤ length (siblings_from a S)
   siblings_short a zero S = omega arith
   siblings_short a (suc i) [] = omega arith
   siblings_short a (suc i) (x ∷ S) =
       let h = siblings_short (a + 1) i S in
       omega (arith, length-append (dotted a x.top x.values) (siblings_from (a + 1) (take i S)), length-append (dotted a x.top x.values) (siblings_from (a + 1) S))
 
-  pub paste-dotted : (d out : List (Sibling V)) (at c t n i : ℕ) (vs : List V) (x : V) → out ≡ paste d at (dotted c t (take n vs)) i → at + i < length d → i < n → n ≤ length vs → x ≡ get_or vs i x → set out (at + i) (record { dot = record { column = c; counter = t - i }; value = x }) ≡ paste d at (dotted c t (take n vs)) (i + 1)
-  paste-dotted d out at c t n i vs x inv room lt few is =
-      let l = length-take-le n vs few in
+  pub paste-dotted : (d out : List (Sibling V)) (at c t i : ℕ) (vs : List V) (x : V) → out ≡ paste d at (dotted c t vs) i → at + i < length d → i < length vs → x ≡ get_or vs i x → set out (at + i) (record { dot = record { column = c; counter = t - i }; value = x }) ≡ paste d at (dotted c t vs) (i + 1)
+  paste-dotted d out at c t i vs x inv room lt is =
       let z : Sibling V = record { dot = record { column = c; counter = t - i }; value = x } in
-      let p = paste_more d at (dotted c t (take n vs)) i z room (omega (arith, length_dotted c t (take n vs))) in
-      let q = get_or_dotted c t i (take n vs) z x (omega arith) in
-      let r = get_or-take n vs i x lt in
+      let p = paste_more d at (dotted c t vs) i z room (omega (arith, length_dotted c t vs)) in
+      let q = get_or_dotted c t i vs z x lt in
       cc
 
   module _ (rows : List Row) (cells : List V) (c n : ℕ) (lt : c < 24) (room : 96 ≤ length cells) (inv : n ≡ length (siblings_from 0 (take c (state rows cells)))) where
@@ -72,7 +71,7 @@ module _ {V : Type 0} where
     pub list_more : (k : ℕ) (d out new : List (Sibling V)) → k ≡ 4 → out ≡ paste d 0 (siblings_from 0 (take c (state rows cells))) n → new ≡ paste out n (dotted c (top_of (get_or rows c no_row)) (take (count_of (get_or rows c no_row)) (take k (drop (4 * c) cells)))) (count_of (get_or rows c no_row)) → new ≡ paste d 0 (siblings_from 0 (take (c + 1) (state rows cells))) (n + count_of (get_or rows c no_row))
     list_more k d out new four was is =
         let vs : List V = take (count_of row) (drop (4 * c) cells) in
-        let q = ap (λ a. a.values) (column_part row k (drop (4 * c) cells) four) in
+        let q = ap (λ a. a.values) (column_part row k (drop (4 * c) cells) (omega arith)) in
         let z : 0 + n ≡ n = omega arith in
         let m = length_dotted c (top_of row) vs in
         let p = paste-paste d 0 (siblings_from 0 (take c (state rows cells))) (dotted c (top_of row) vs) n (count_of row) inv (omega (arith, length-column row c cells lt room)) (omega arith) in
@@ -84,6 +83,18 @@ module _ {V : Type 0} where
   unfolding siblings
   siblings-all rows cells n h = ap (siblings_from 0) (take_all n (state rows cells) (omega (arith, length-state rows cells)))
 
+  counted_upto : (rows : List Row) (cells : List V) (c : ℕ) → c ≤ 24 → 24 ≤ length rows → 96 ≤ length cells → sum_by count_of (take c rows) ≡ length (siblings_from 0 (take c (state rows cells)))
+  counted_upto rows cells zero h l room = refl
+  counted_upto rows cells (suc c) h l room =
+      let e : c + 1 ≡ suc c = omega arith in
+      let so_far = counted_upto rows cells c (omega arith) l room in
+      let more = count_more rows cells c (sum_by count_of (take c rows)) h room so_far in
+      rw (← e) (sum_by_more count_of rows c no_row (omega arith) ∙ more)
+
+  -- the rows alone tell how many siblings there are
+  pub counted : (rows : List Row) (cells : List V) → 24 ≤ length rows → 96 ≤ length cells → sum_by count_of (take 24 rows) ≡ length (siblings (state rows cells))
+  counted rows cells l room = counted_upto rows cells 24 (omega arith) l room ∙ ap length (siblings-all rows cells 24 (omega arith))
+
   pub listed : (ws d out : List (Sibling V)) (n : ℕ) → n ≡ length ws → out ≡ paste d 0 ws n → out ≡ ws ++ drop (length ws) d
   listed ws d out n e is =
       let z : 0 + n ≡ n = omega arith in
@@ -93,11 +104,11 @@ module _ {V : Type 0} where
 -- ---- the tops
 
 module _ {V : Type 0} (rows : List Row) (cells : List V) where
-  pub length-context : length (context (state rows cells)) ≡ 24
+  length-context : length (context (state rows cells)) ≡ 24
   unfolding context
   length-context = length-map (state rows cells) (λ a. a.top) ∙ length-state rows cells
 
-  pub get_or-context : (c : ℕ) → c < 24 → get_or (context (state rows cells)) c 0 ≡ top_of (get_or rows c no_row)
+  get_or-context : (c : ℕ) → c < 24 → get_or (context (state rows cells)) c 0 ≡ top_of (get_or rows c no_row)
   unfolding context
   get_or-context c h = get_or-map (λ a. a.top) (state rows cells) c no_writes 0 (omega (arith, length-state rows cells)) ∙ ap (λ a. a.top) (get_or-state rows cells c no_writes h)
 

@@ -1,6 +1,9 @@
 -- A put by the column that it writes to; and what a call leaves. Assumes nothing.
-use Rattle.std.proofs.Common.{◌≡◌, ℕ, ◌+◌, ◌*◌, ◌≤◌, true, false, cond, eqb, List, length, get_or, drop, set, replicate, Ok, Err, sym, refl, ap, ◌∙◌, arith}
+use Rattle.std.proofs.Common.{◌≡◌, ℕ, ◌+◌, ◌*◌, ◌<◌, ◌≤◌, true, false, cond, eqb, List, ◌++◌, length, get_or, take, drop, set, replicate, Ok, Err, sym, refl, ap, ◌∙◌, arith}
 use Rattle.std.proofs.lemmas.Bool.{eq-eqb, ne_eqb, cond-true, cond-false}
+use borrow.Rule.Slice.PartMut.{put_mid}
+use Rattle.std.proofs.lemmas.List.{drop_at, length-set}
+use Rattle.std.proofs.lemmas.Slice.{drop-put_mid}
 use Rattle.refusals.specs.declared.Refusal.{Refusal}
 use Rattle.refusals.specs.declared.Refusal.TheVariants.{TooManySiblings, CounterExhausted, ShortMemory}
 use Rattle.dvvset.specs.Clock.{ColumnState, State, Outcome, refused, accepted, answer, after, discard_column, discard, push, put, no_writes, column_at}
@@ -9,10 +12,9 @@ use Rattle.dvvset.proofs.Zips.{get_d_zip}
 use Rattle.clock.specs.Memory.{top_of, count_of, column, no_row, state, roomy}
 use Rattle.clock.specs.Calls.{Leaves, Remains, in_room, unless_refused, putting}
 use Rattle.clock.specs.declared.contexts.Context.{Context}
-use Rattle.clock.specs.declared.indices.ColumnIndex.{ColumnIndex}
 use Rattle.clock.specs.declared.rows.Row.{Row}
 use Rattle.clock.proofs.One.{discard_is}
-use Rattle.clock.proofs.Whole.{length-column, length-state, get_or-state}
+use Rattle.clock.proofs.Whole.{length-column, length-state, get_or-state, column_part, state_discarded, state_front_rows, state-put}
 
 -- ---- what a call leaves
 
@@ -27,60 +29,70 @@ module _ {V A : Type 0} (rows : List Row) (cells : List V) (o : Outcome A (State
       never : false ≡ true → ⊥
       never e = let z : ◌≡◌ {A = ℕ} 0 1 = ap (λ b. cond b 1 0) e in omega arith
 
--- ---- a put, where r is the row of the own column once the context's writes are gone
+  -- the key's own rows are left as ws
+  pub leaves_front_rows : (a : A) (S : State V) (ws : List Row) → o ≡ accepted a S → state ws cells ≡ S → length ws ≡ 24 → Leaves rows cells o (Ok a) (ws ++ drop 24 rows) cells
+  leaves_front_rows a S ws is means l = leaves_accepted a S _ cells is (state_front_rows ws (drop 24 rows) cells l ∙ means) (drop_at ws (drop 24 rows) 24 l) refl
 
-module _ {V : Type 0} (rows : List Row) (cells : List V) (context : Context) (own : ColumnIndex) (v : V) (r : Row) (left : Remains rows context.tops own.index r) (room : 96 ≤ length cells) where
-  abbrev c : ℕ
-  c = own.index
+-- ---- a put, where r is the row of the own column c once the context's writes are gone
 
+module _ {V : Type 0} (rows : List Row) (cells : List V) (context : Context) (c : ℕ) (v : V) (r : Row) (inside : c < 24) (left : Remains rows context.tops c r) where
   abbrev C : List ℕ
   C = context.tops
 
-  abbrev mine : ColumnState V
-  mine = column r (drop (4 * c) cells)
+  module _ (room : 96 ≤ length cells) where
+    abbrev mine : ColumnState V
+    mine = column r (drop (4 * c) cells)
 
-  own_column : column_at (discard C (state rows cells)) c ≡ mine
-  unfolding discard
-  own_column =
-      let z = get_d_zip discard_column c (state rows cells) C no_writes 0 no_writes (omega (arith, length-state rows cells)) (omega (arith, context.wide)) in
-      let a = get_or-state rows cells c no_writes own.within in
-      let h = discard_is (get_or rows c no_row) r (get_or C c 0) (drop (4 * c) cells) left.top left.count in
-      cc
+    own_column : column_at (discard C (state rows cells)) c ≡ mine
+    unfolding discard
+    own_column =
+        let z = get_d_zip discard_column c (state rows cells) C no_writes 0 no_writes (omega (arith, length-state rows cells)) (omega (arith, context.wide)) in
+        let a = get_or-state rows cells c no_writes inside in
+        let h = discard_is (get_or rows c no_row) r (get_or C c 0) (drop (4 * c) cells) left.top left.count in
+        cc
 
-  put_8 : top_of r ≡ 999999 → put c C v (state rows cells) ≡ refused CounterExhausted
-  unfolding put
-  put_8 t = rw own_column (cond-true (eqb (top_of r) 999999) _ _ (eq-eqb (top_of r) 999999 t))
+    put_8 : top_of r ≡ 999999 → put c C v (state rows cells) ≡ refused CounterExhausted
+    unfolding put
+    put_8 t = rw own_column (cond-true (eqb (top_of r) 999999) _ _ (eq-eqb (top_of r) 999999 t))
 
-  put_7 : (top_of r ≡ 999999 → ⊥) → count_of r ≡ 4 → put c C v (state rows cells) ≡ refused TooManySiblings
-  unfolding put
-  put_7 t n = rw own_column (cond-false (eqb (top_of r) 999999) _ _ (ne_eqb (top_of r) 999999 t) ∙ cond-true (eqb (length mine.values) 4) _ _ (eq-eqb (length mine.values) 4 (length-column r c cells own.within room ∙ n)))
+    put_7 : (top_of r ≡ 999999 → ⊥) → count_of r ≡ 4 → put c C v (state rows cells) ≡ refused TooManySiblings
+    unfolding put
+    put_7 t n = rw own_column (cond-false (eqb (top_of r) 999999) _ _ (ne_eqb (top_of r) 999999 t) ∙ cond-true (eqb (length mine.values) 4) _ _ (eq-eqb (length mine.values) 4 (length-column r c cells inside room ∙ n)))
 
-  put_ok : (top_of r ≡ 999999 → ⊥) → (count_of r ≡ 4 → ⊥) → put c C v (state rows cells) ≡ accepted (record { column = c; counter = top_of r + 1 }) (set (discard C (state rows cells)) c (push v (column r (drop (4 * c) cells))))
-  unfolding put
-  put_ok t n = rw own_column (cond-false (eqb (top_of r) 999999) _ _ (ne_eqb (top_of r) 999999 t) ∙ cond-false (eqb (length mine.values) 4) _ _ (ne_eqb (length mine.values) 4 (λ e. n (sym (length-column r c cells own.within room) ∙ e))))
+    put_ok : (top_of r ≡ 999999 → ⊥) → (count_of r ≡ 4 → ⊥) → put c C v (state rows cells) ≡ accepted (record { column = c; counter = top_of r + 1 }) (set (discard C (state rows cells)) c (push v (column r (drop (4 * c) cells))))
+    unfolding put
+    put_ok t n = rw own_column (cond-false (eqb (top_of r) 999999) _ _ (ne_eqb (top_of r) 999999 t) ∙ cond-false (eqb (length mine.values) 4) _ _ (ne_eqb (length mine.values) 4 (λ e. n (sym (length-column r c cells inside room) ∙ e))))
 
 -- ---- the call, over any cells
 
-module _ {V : Type 0} (rows : List Row) (cells : List V) (context : Context) (own : ColumnIndex) (v : V) (r : Row) (left : Remains rows context.tops own.index r) where
+module _ {V : Type 0} (rows : List Row) (cells : List V) (context : Context) (c : ℕ) (v : V) (r : Row) (inside : c < 24) (left : Remains rows context.tops c r) where
   abbrev o : Outcome Dot (State V)
-  o = putting rows cells own.index context.tops v
+  o = putting rows cells c context.tops v
 
   abbrev tried : Outcome Dot (State (Unit {0})) → Outcome Dot (State V)
-  tried s = unless_refused s (in_room (roomy rows cells) (put own.index context.tops v (state rows cells)))
+  tried s = unless_refused s (in_room (roomy rows cells) (put c context.tops v (state rows cells)))
 
   pub leaves_8 : top_of r ≡ 999999 → Leaves rows cells o (Err CounterExhausted) rows cells
-  leaves_8 t = leaves_refused rows cells o CounterExhausted (ap tried (put_8 rows (replicate 96 tt) context own tt r left (omega arith) t))
+  leaves_8 t = leaves_refused rows cells o CounterExhausted (ap tried (put_8 rows (replicate 96 tt) context c tt r inside left (omega arith) t))
 
   pub leaves_7 : (top_of r ≡ 999999 → ⊥) → count_of r ≡ 4 → Leaves rows cells o (Err TooManySiblings) rows cells
-  leaves_7 t n = leaves_refused rows cells o TooManySiblings (ap tried (put_7 rows (replicate 96 tt) context own tt r left (omega arith) t n))
+  leaves_7 t n = leaves_refused rows cells o TooManySiblings (ap tried (put_7 rows (replicate 96 tt) context c tt r inside left (omega arith) t n))
 
   module _ (t : top_of r ≡ 999999 → ⊥) (n : count_of r ≡ 4 → ⊥) where
-    told : o ≡ in_room (roomy rows cells) (put own.index context.tops v (state rows cells))
-    told = ap tried (put_ok rows (replicate 96 tt) context own tt r left (omega arith) t n)
+    told : o ≡ in_room (roomy rows cells) (put c context.tops v (state rows cells))
+    told = ap tried (put_ok rows (replicate 96 tt) context c tt r inside left (omega arith) t n)
 
     pub leaves_9 : roomy rows cells ≡ false → Leaves rows cells o (Err ShortMemory) rows cells
     leaves_9 e = leaves_refused rows cells o ShortMemory (told ∙ cond-false (roomy rows cells) _ _ e)
 
-    pub leaves_put : roomy rows cells ≡ true → 96 ≤ length cells → (k : ℕ) → k ≡ top_of r → (rows' : List Row) (cells' : List V) → state rows' cells' ≡ set (discard context.tops (state rows cells)) own.index (push v (column r (drop (4 * own.index) cells))) → drop 24 rows' ≡ drop 24 rows → drop 96 cells' ≡ drop 96 cells → Leaves rows cells o (Ok (record { column = own.index; counter = k + 1 })) rows' cells'
-    leaves_put e room k is rows' cells' =
-        leaves_accepted rows cells o _ _ rows' cells' (told ∙ cond-true (roomy rows cells) _ _ e ∙ put_ok rows cells context own v r left room t n ∙ ap (λ m. accepted (record { column = own.index; counter = m + 1 }) (set (discard context.tops (state rows cells)) own.index (push v (column r (drop (4 * own.index) cells))))) (sym is))
+    -- new are the rows once the context's writes are gone, and ys the own cells with v in front; k is 4 * c + 4 - 4 * c
+    pub leaves_put : roomy rows cells ≡ true → 96 ≤ length cells → (new : List Row) → length new ≡ 24 → ((i : ℕ) → i < 24 → Remains rows context.tops i (get_or new i no_row)) → r ≡ get_or new c no_row → (k : ℕ) (ys : List V) (p : Row) → k ≡ 4 → length ys ≡ 4 → column p ys ≡ push v (column r (take k (drop (4 * c) cells))) → (m : ℕ) → m ≡ top_of r → Leaves rows cells o (Ok (record { column = c; counter = m + 1 })) (set new c p ++ drop 24 rows) (put_mid (4 * c) k cells ys)
+    leaves_put e room new wide each here k ys p four long pushed m is =
+        leaves_accepted rows cells o _ _ (set new c p ++ drop 24 rows) (put_mid (4 * c) k cells ys)
+        (told ∙ cond-true (roomy rows cells) _ _ e ∙ put_ok rows cells context c v r inside left room t n ∙ ap (λ j. accepted (record { column = c; counter = j + 1 }) (set (discard context.tops (state rows cells)) c (push v (column r (drop (4 * c) cells))))) (sym is))
+        (state_front_rows (set new c p) (drop 24 rows) (put_mid (4 * c) k cells ys) (length-set new c p ∙ wide)
+        ∙ state-put new cells c p inside (omega arith) k ys four long room
+        ∙ ap (λ S. set S c (column p ys)) (state_discarded rows new context.tops cells context.wide each)
+        ∙ ap (set (discard context.tops (state rows cells)) c) (pushed ∙ ap (push v) (column_part r k (drop (4 * c) cells) (omega arith))))
+        (drop_at (set new c p) (drop 24 rows) 24 (length-set new c p ∙ wide))
+        (drop-put_mid (4 * c) k cells ys 96 (omega arith) (omega arith) (omega arith))

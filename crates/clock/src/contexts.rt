@@ -5,9 +5,10 @@ ghost use Rattle.std.specs.Option.{option_map};
 use crate::indices::ColumnIndex;
 
 // tops (4 each), column 0 first
-#[derive(Clone, Copy)]
+#[derive(Clone, Copy, PartialEq, Eq, Debug)]
 pub struct Context {
     pub tops: [u32; 24],
+    // the array's type says so too; a lemma on a context, apart from any function, has it from here
     ghost wide: { length tops ≡ 24 },
     ghost low: { (c : ℕ) → slice_index tops c ≤ 999999 },
 }
@@ -28,7 +29,7 @@ impl Context {
             return None;
         }
         let mut tops = self.tops;
-        tops[column as usize] = top;
+        tops[usize::from(column)] = top;
         Some(Context { tops })
     }
 
@@ -37,6 +38,6 @@ impl Context {
         ensures value { result ≡ slice_index self.now.tops column.index }
         ensures low { result ≤ 999999 }
     {
-        self.tops[column.index as usize]
+        self.tops[usize::from(column.index)]
     }
 }

@@ -1,7 +1,6 @@
 // The calls on one key: its 24 rows, and its 96 cells.
-ghost use Rattle.std.specs.Prelude.{◌≡◌, ◌*◌, ◌<◌, ◌≤◌, T, List, length, drop, slice_set};
-ghost use Rattle.dvvset.specs.Clock.{discard as discarded, merge as merged, push};
-ghost use Rattle.clock.specs.Memory.{column, count_of, roomy, state, top_of};
+ghost use Rattle.std.specs.Prelude.{◌≡◌, ◌↔◌, ℕ, ◌<◌, ◌≤◌, IsTrue, length, slice_index_or};
+ghost use Rattle.clock.specs.Memory.{no_row, roomy};
 ghost use Rattle.clock.specs.Calls.{Leaves, Remains, discarding, merging, putting};
 
 use crate::columns::Column;
@@ -15,39 +14,16 @@ use refusals::Refusal;
 // Whether there is memory enough for one key.
 pub fn has_room<V>(rows: &[Row], cells: &[V]) -> bool
     ensures value { result ≡ roomy rows.now cells.now }
-    ensures enough { T result → (24 ≤ length rows.now) × (96 ≤ length cells.now) }
+    ensures enough { IsTrue result ↔ (24 ≤ length rows.now) × (96 ≤ length cells.now) }
 {
     rows.len() >= 24 && cells.len() >= 96
 }
 
-fn merge_columns<V: Copy>(rows: &mut [Row], cells: &mut [V], others: &[Row], values: &[V])
-    requires rows { 24 ≤ length rows.old }
-    requires cells { 96 ≤ length cells.old }
-    requires others { 24 ≤ length others.now }
-    requires values { 96 ≤ length values.now }
-    ensures state { state rows.new cells.new ≡ merged (state rows.old cells.old) (state others.now values.now) }
-    ensures rows { drop 24 rows.new ≡ drop 24 rows.old }
-    ensures cells { drop 96 cells.new ≡ drop 96 cells.old }
+// The rows without the values that the context covers, an empty row for one that is not there. No cell changes.
+fn discard_rows(rows: &[Row], context: &Context) -> [Row; 24]
+    ensures { (c : ℕ) → c < 24 → Remains rows.now context.now.tops c (slice_index_or result c no_row) }
 {
-    for c in 0..24 {
-        rows[c] = merge_column(
-            rows[c],
-            &mut cells[4 * c..4 * c + 4],
-            others[c],
-            &values[4 * c..4 * c + 4],
-        );
-    }
-}
-
-// No cell changes, so this speaks of any cells.
-fn discard_columns<V>(rows: &mut [Row], context: &Context)
-    requires { 24 ≤ length rows.old }
-    ensures state { (cells : List V) → state rows.new cells ≡ discarded context.now.tops (state rows.old cells) }
-    ensures beyond { drop 24 rows.new ≡ drop 24 rows.old }
-{
-    for c in 0..24 {
-        rows[c] = discard_row(rows[c], context.top(ColumnIndex { index: c as u8 }));
-    }
+    std::array::from_fn(|c| discard_row(row_at(rows, c), context.tops[c]))
 }
 
 // Merges another state of the key into this one.
@@ -62,7 +38,15 @@ pub fn merge<V: Copy>(
     if !has_room(rows, cells) || !has_room(others, values) {
         return Err(Refusal::ShortMemory);
     }
-    merge_columns(rows, cells, others, values);
+    // By index: after an `iter_mut` nothing would be known of the rows and cells written.
+    for c in 0..24 {
+        rows[c] = merge_column(
+            rows[c],
+            &mut cells[4 * c..4 * c + 4],
+            others[c],
+            &values[4 * c..4 * c + 4],
+        );
+    }
     Ok(())
 }
 
@@ -73,37 +57,9 @@ pub fn discard<V>(rows: &mut [Row], cells: &[V], context: &Context) -> Result<()
     if !has_room(rows, cells) {
         return Err(Refusal::ShortMemory);
     }
-    discard_columns::<V>(rows, context);
+    let left = discard_rows(rows, context);
+    rows[..24].copy_from_slice(&left);
     Ok(())
-}
-
-// The row of the own column, once what the context covers is taken away.
-fn own_row(rows: &[Row], own: ColumnIndex, context: &Context) -> Row
-    ensures { Remains rows.now context.now.tops own.index result }
-{
-    discard_row(row_at(rows, own.index), context.top(own))
-}
-
-// Takes away what the context covers, and puts the value in front of the own column, whose row is by then `mine`.
-fn write_own<V: Copy>(
-    rows: &mut [Row],
-    cells: &mut [V],
-    own: ColumnIndex,
-    context: &Context,
-    mine: Row,
-    value: V,
-)
-    requires rows { 24 ≤ length rows.old }
-    requires cells { 96 ≤ length cells.old }
-    requires top { top_of mine < 999999 }
-    requires count { count_of mine < 4 }
-    ensures state { state rows.new cells.new ≡ slice_set (discarded context.now.tops (state rows.old cells.old)) own.index (push value (column mine (drop (4 * own.index) cells.old))) }
-    ensures rows { drop 24 rows.new ≡ drop 24 rows.old }
-    ensures cells { drop 96 cells.new ≡ drop 96 cells.old }
-{
-    let at = own.index as usize;
-    discard_columns::<V>(rows, context);
-    rows[at] = push_column(mine, &mut cells[4 * at..4 * at + 4], value);
 }
 
 // Writes a value in the own column, in the place of what the context covers, and answers its dot.
@@ -116,8 +72,9 @@ pub fn put<V: Copy>(
 ) -> Result<Dot, Refusal>
     ensures { Leaves rows.old cells.old (putting rows.old cells.old own.index context.now.tops value) result rows.new cells.new }
 {
-    let mine = own_row(rows, own, context);
-    let column = Column::of(mine);
+    let mut left = discard_rows(rows, context);
+    let at = usize::from(own.index);
+    let column = Column::from(left[at]);
     if column.top == 999_999 {
         return Err(Refusal::CounterExhausted);
     }
@@ -127,7 +84,8 @@ pub fn put<V: Copy>(
     if !has_room(rows, cells) {
         return Err(Refusal::ShortMemory);
     }
-    write_own(rows, cells, own, context, mine, value);
+    left[at] = push_column(left[at], &mut cells[4 * at..4 * at + 4], value);
+    rows[..24].copy_from_slice(&left);
     Ok(Dot {
         column: own.index,
         counter: column.top + 1,

@@ -1,4 +1,5 @@
 // The clock of one key over lent memory: 24 rows, and four value cells for each. Nothing is allocated.
+// Rows and cells are lent apart, each of any length, since a host has them as two pieces of fixed memory.
 #![tactic(auto)]
 
 mod columns;

@@ -1,5 +1,5 @@
-// One column: its row, and its four cells.
-ghost use Rattle.std.specs.Prelude.{◌≡◌, ℕ, ◌+◌, ◌-◌, ◌<◌, ◌≤◌, min, max, length};
+// One column: its row, and its four cells. They are slices, since an array of a type parameter would ask a bound on that type's size.
+ghost use Rattle.std.specs.Prelude.{◌≡◌, ◌+◌, ◌-◌, ◌<◌, ◌≤◌, min, max, length};
 ghost use Rattle.dvvset.specs.Clock.{merge_column, push};
 ghost use Rattle.clock.specs.Memory.{top_of, count_of, column};
 
@@ -12,13 +12,12 @@ pub(crate) fn merge_column<V: Copy>(mine: Row, cells: &mut [V], theirs: Row, val
     requires values { length values.now ≡ 4 }
     ensures { column result cells.new ≡ merge_column (column mine cells.old) (column theirs values.now) }
 {
-    let a = Column::of(mine);
-    let b = Column::of(theirs);
-    if b.top <= a.top {
-        return a.first(a.top - b.top + b.count as u32).row();
+    let a = Column::from(mine);
+    let b = Column::from(theirs);
+    if b.top > a.top {
+        cells.copy_from_slice(values);
     }
-    cells.copy_from_slice(values);
-    b.first(b.top - a.top + a.count as u32).row()
+    a.merge(b).into()
 }
 
 // The row of a column without the values that a context with the top n covers. No cell changes.
@@ -27,9 +26,9 @@ pub(crate) fn discard_row(row: Row, n: u32) -> Row
     ensures top { top_of result ≡ max (top_of row) n }
     ensures count { count_of result ≡ min (top_of row - n) (count_of row) }
 {
-    let a = Column::of(row);
+    let a = Column::from(row);
     if n < a.top {
-        return a.first(a.top - n).row();
+        return a.first(a.top - n).into();
     }
     Row { top: n, count: 0 }
 }
@@ -41,12 +40,12 @@ pub(crate) fn push_column<V: Copy>(row: Row, cells: &mut [V], v: V) -> Row
     requires count { count_of row < 4 }
     ensures { column result cells.new ≡ push v (column row cells.old) }
 {
-    let a = Column::of(row);
+    let a = Column::from(row);
     cells.rotate_right(1);
     cells[0] = v;
     Column {
         top: a.top + 1,
         count: a.count + 1,
     }
-    .row()
+    .into()
 }

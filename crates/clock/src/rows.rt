@@ -1,21 +1,16 @@
 // A column record as it lies in lent memory, where it may say anything: top (4), count (1).
-ghost use Rattle.std.specs.Prelude.{◌≡◌, ◌<◌, ◌≤◌, length, slice_index_or};
+ghost use Rattle.std.specs.Prelude.{◌≡◌, slice_index_or};
 ghost use Rattle.clock.specs.Memory.{no_row};
 
-#[derive(Clone, Copy)]
+#[derive(Clone, Copy, Default, PartialEq, Eq, Debug)]
 pub struct Row {
     pub top: u32,
     pub count: u8,
 }
 
 // The row of a column, an empty one where so many are not there.
-pub(crate) fn row_at(rows: &[Row], column: u8) -> Row
+pub(crate) fn row_at(rows: &[Row], column: usize) -> Row
     ensures { result ≡ slice_index_or rows.now column no_row }
 {
-    let at = column as usize;
-    if at < rows.len() {
-        rows[at]
-    } else {
-        Row { top: 0, count: 0 }
-    }
+    rows.get(column).copied().unwrap_or_default()
 }

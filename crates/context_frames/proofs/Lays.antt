@@ -1,74 +1,87 @@
 -- Tops laid one behind the other. Assumes nothing.
-use Rattle.std.proofs.Common.{◌≡◌, ℕ, zero, suc, ◌+◌, ◌<◌, ◌≤◌, cond, eqb, leb, List, [], ◌∷◌, ◌++◌, length, get_or, take, drop, Ok, sym, refl, ap, ◌∙◌, arith}
+use Rattle.std.proofs.Common.{◌≡◌, ℕ, zero, suc, ◌+◌, ◌*◌, ◌<◌, ◌≤◌, Bool, true, false, cond, not, ⊎_elim, eqb, leb, List, [], ◌++◌, length, get_or, take, drop, count_by, Ok, sym, refl, ap, ◌∙◌, arith}
 use borrow.Rule.Slice.PartMut.{put_mid}
-use Rattle.std.proofs.lemmas.List.{append-nil, drop_all, drop-drop, length-append, length-drop, length-take, take_all, take-append-drop}
-use Rattle.std.proofs.lemmas.Bool.{cond-true, cond-false, eq-eqb, le-leb, lt-leb, ne_eqb}
+use Rattle.std.proofs.lemmas.List.{append-nil, append_assoc, drop_at, drop-drop, length-append, take_all, take_at}
+use Rattle.std.proofs.lemmas.List.Sums.{sum_by_more, sum_by-take-le}
+use Rattle.std.proofs.lemmas.Bool.{cases_eq, cond-true, cond-false, eq-eqb, le-leb, lt-leb, ne_eqb}
 use Rattle.refusals.specs.declared.Refusal.TheVariants.{NoSuchSeatOrKey, ShortMemory}
 use Rattle.dvvset.specs.Clock.{accepted, after, answer, refused}
 use Rattle.clock.specs.Calls.{in_room}
-use Rattle.formats.specs.Frames.{context_frame, head_field, rising_fields, top_field}
+use Rattle.formats.specs.Frames.{context_frame, head_field, top_field}
 use Rattle.formats.proofs.Laying.{fields_more}
 use Rattle.context_frames.specs.Laying.{tops_laid, writing_context}
 
--- the field of one top
-abbrev pub top_laid : ℕ → ℕ → List ℕ
-top_laid c t = cond (eqb t 0) [] (top_field c t)
+-- a top that is told
+abbrev pub is_told : ℕ → Bool
+is_told t = not (eqb t 0)
 
-pub next-top : (C : List ℕ) (c : ℕ) → c < length C → tops_laid (take (c + 1) C) ≡ tops_laid (take c C) ++ top_laid c (get_or C c 0)
-next-top C c h = let e : c + 1 ≡ suc c = omega arith in ap (λ n. tops_laid (take n C)) e ∙ fields_more (λ t. eqb t 0) top_field 0 c c C 0 h (omega arith)
+module _ (C : List ℕ) (c : ℕ) (h : c < length C) where
+  abbrev t : ℕ
+  t = get_or C c 0
 
-pub length-next : (C : List ℕ) (c n k : ℕ) → c < length C → n ≡ 4 + length (tops_laid (take c C)) → k ≡ length (top_laid c (get_or C c 0)) → n + k ≡ 4 + length (tops_laid (take (c + 1) C))
-length-next C c n k h inv is = omega (arith, ap length (next-top C c h) ∙ length-append (tops_laid (take c C)) (top_laid c (get_or C c 0)))
+  next-top : tops_laid (take (c + 1) C) ≡ tops_laid (take c C) ++ cond (eqb t 0) [] (top_field c t)
+  next-top = let e : c + 1 ≡ suc c = omega arith in ap (λ n. tops_laid (take n C)) e ∙ fields_more (λ t. eqb t 0) top_field 0 c c C 0 h (omega arith)
 
-pub all-tops : (C : List ℕ) (n : ℕ) → length C ≤ n → tops_laid (take n C) ≡ tops_laid C
-all-tops C n h = ap tops_laid (take_all n C h)
+  next_count : count_by is_told (take (c + 1) C) ≡ count_by is_told (take c C) + cond (is_told t) 1 0
+  next_count = sum_by_more (λ x. cond (is_told x) 1 0) C c 0 h
 
-laid_short : (a i : ℕ) (C : List ℕ) → length (rising_fields (λ t. eqb t 0) top_field a (take i C)) ≤ length (rising_fields (λ t. eqb t 0) top_field a C)
-laid_short a zero C = omega arith
-laid_short a (suc i) [] = omega arith
-laid_short a (suc i) (t ∷ C) =
-    omega (arith, laid_short (a + 1) i C, length-append (top_laid a t) (rising_fields (λ t. eqb t 0) top_field (a + 1) (take i C)), length-append (top_laid a t) (rising_fields (λ t. eqb t 0) top_field (a + 1) C))
+  module _ (none : t ≡ 0) where
+    pub none_laid : tops_laid (take (c + 1) C) ≡ tops_laid (take c C)
+    none_laid = next-top ∙ ap (λ f. tops_laid (take c C) ++ f) (cond-true (eqb t 0) [] (top_field c t) (eq-eqb t 0 none)) ∙ append-nil (tops_laid (take c C))
 
--- there is room for the next field
-pub top_fits : (C : List ℕ) (c n : ℕ) → c < length C → n ≡ 4 + length (tops_laid (take c C)) → n + length (top_laid c (get_or C c 0)) ≤ 4 + length (tops_laid C)
-top_fits C c n h inv = omega (arith, length-next C c n _ h inv refl, laid_short 0 (c + 1) C)
+    pub none_counted : count_by is_told (take (c + 1) C) ≡ count_by is_told (take c C)
+    none_counted = next_count ∙ ap (λ b. count_by is_told (take c C) + cond (not b) 1 0) (eq-eqb t 0 none) ∙ omega arith
 
--- ---- one field, in its place
+  module _ (some : t ≡ 0 → ⊥) where
+    pub one_laid : tops_laid (take (c + 1) C) ≡ tops_laid (take c C) ++ top_field c t
+    one_laid = next-top ∙ ap (λ f. tops_laid (take c C) ++ f) (cond-false (eqb t 0) [] (top_field c t) (ne_eqb t 0 some))
 
-pub nothing_written : (c t at : ℕ) (out : List ℕ) → t ≡ 0 → (at ≡ at + length (top_laid c t)) × (out ≡ take at out ++ (top_laid c t ++ drop at out))
-nothing_written c t at out z =
-    let e = cond-true (eqb t 0) [] (top_field c t) (eq-eqb t 0 z) in
-    (omega (arith, ap length e), sym (ap (λ f. take at out ++ (f ++ drop at out)) e ∙ take-append-drop at out))
+    pub one_counted : count_by is_told (take (c + 1) C) ≡ count_by is_told (take c C) + 1
+    one_counted = next_count ∙ ap (λ b. count_by is_told (take c C) + cond (not b) 1 0) (ne_eqb t 0 some)
 
--- k is at + 8 - at
-pub top_written : (c t at k : ℕ) (out last : List ℕ) → (t ≡ 0 → ⊥) → k ≡ 8 → at + length (top_laid c t) ≤ length out → last ≡ top_field c t ++ drop 8 (take k (drop at out)) → (at + 8 ≡ at + length (top_laid c t)) × (put_mid at k out last ≡ take at out ++ (top_laid c t ++ drop (at + 8) out))
-top_written c t at k out last some e room wrote =
-    let f : top_laid c t ≡ top_field c t = cond-false (eqb t 0) [] (top_field c t) (ne_eqb t 0 some) in
-    let eight = ap length f in
-    let l : last ≡ top_field c t = wrote ∙ ap (λ d. top_field c t ++ d) (drop_all 8 (take k (drop at out)) (simp (length-take, length-drop) (omega arith))) ∙ append-nil (top_field c t) in
-    let d : drop k (drop at out) ≡ drop (at + 8) out = drop-drop k at out ∙ ap (λ n. drop (at + n) out) e in
-    (omega arith, (cc))
+length_upto : (C : List ℕ) (c : ℕ) → c ≤ length C → length (tops_laid (take c C)) ≡ 8 * count_by is_told (take c C)
+length_upto C zero h = refl
+length_upto C (suc c) h =
+    let e : c + 1 ≡ suc c = omega arith in
+    let so_far = length_upto C c (omega arith) in
+    rw (← e)
+    (⊎_elim (λ (z : get_or C c 0 ≡ 0). omega (arith, so_far, ap length (none_laid C c h z), none_counted C c h z))
+    (λ (s : get_or C c 0 ≡ 0 → ⊥). omega (arith, so_far, ap length (one_laid C c h s), length-append (tops_laid (take c C)) (top_field c (get_or C c 0)), one_counted C c h s))
+    (cases_eq (get_or C c 0) 0))
 
 -- ---- the whole
 
-module _ (key n : ℕ) (C out : List ℕ) (low : key ≤ 15) (size : n ≡ 4 + length (tops_laid C)) where
-  long : n ≡ length (context_frame key C)
-  unfolding context_frame
-  long = omega arith
+module _ (key : ℕ) (C out : List ℕ) (low : key ≤ 15) where
+  abbrev N : ℕ
+  N = length (context_frame key C)
 
-  pub too_short : length out < n → writing_context key C out ≡ refused ShortMemory
-  too_short l =
-      let N = length (context_frame key C) in
-      cond-true (leb key 15) _ _ (le-leb key 15 low) ∙ cond-false (leb N (length out)) (accepted N (context_frame key C ++ drop N out)) (refused ShortMemory) (lt-leb N (length out) (omega (arith, long)))
-
-  pub context_written : (o new : List ℕ) → n ≤ length out → o ≡ head_field 3 key ++ drop 4 out → new ≡ (take 4 o ++ tops_laid C) ++ drop (4 + length (tops_laid C)) o → (Ok n ≡ answer (writing_context key C out)) × (new ≡ after out (writing_context key C out))
+  pub length-all : N ≡ 4 + 8 * count_by is_told C
   unfolding context_frame
-  context_written o new fits head is =
-      let N = length (context_frame key C) in
-      let done = accepted N (context_frame key C ++ drop N out) in
-      let o_is = cond-true (leb key 15) (in_room (leb N (length out)) done) (refused NoSuchSeatOrKey) (le-leb key 15 low) ∙ cond-true (leb N (length out)) done (refused ShortMemory) (le-leb N (length out) (omega arith)) in
-      let m = length (tops_laid C) in
-      let t : take 4 o ≡ head_field 3 key = ap (take 4) head in
-      let d : drop (4 + m) o ≡ drop (4 + m) out = sym (drop-drop m 4 o) ∙ ap (λ q. drop m (drop 4 q)) head ∙ drop-drop m 4 out in
-      let n_is : 4 + m ≡ N = omega arith in
-      (ap Ok (size ∙ n_is) ∙ sym (ap answer o_is), is ∙ ap (λ h. (h ++ tops_laid C) ++ drop (4 + m) o) t ∙ ap (λ r. (head_field 3 key ++ tops_laid C) ++ r) d ∙ ap (λ k. (head_field 3 key ++ tops_laid C) ++ drop k out) n_is ∙ sym (ap (after out) o_is))
+  length-all = omega (arith, rw (take_all (length C) C (omega arith)) at (length_upto C (length C) (omega arith)))
+
+  reached : (b : Bool) → leb N (length out) ≡ b → writing_context key C out ≡ in_room b (accepted N (context_frame key C ++ drop N out))
+  reached b e = cond-true (leb key 15) _ (refused NoSuchSeatOrKey) (le-leb key 15 low) ∙ ap (λ r. in_room r (accepted N (context_frame key C ++ drop N out))) e
+
+  module _ (n : ℕ) (size : n ≡ 4 + 8 * count_by is_told C) where
+    pub too_short : length out < n → writing_context key C out ≡ refused ShortMemory
+    too_short l = reached false (lt-leb N (length out) (omega (arith, length-all)))
+
+    pub context_written : (new : List ℕ) → n ≤ length out → new ≡ (head_field 3 key ++ tops_laid C) ++ drop n out → (Ok n ≡ answer (writing_context key C out)) × (new ≡ after out (writing_context key C out))
+    unfolding context_frame
+    context_written new fits is =
+        let o = reached true (le-leb N (length out) (omega (arith, length-all))) in
+        let n_is : n ≡ N = omega (arith, length-all) in
+        (ap Ok n_is ∙ sym (ap answer o), is ∙ ap (λ m. context_frame key C ++ drop m out) n_is ∙ sym (ap (after out) o))
+
+-- there is room for the next field
+pub one_fits : (C : List ℕ) (c : ℕ) → c < length C → (get_or C c 0 ≡ 0 → ⊥) → count_by is_told (take c C) + 1 ≤ count_by is_told C
+one_fits C c h some = omega (arith, one_counted C c h some, sum_by-take-le (λ x. cond (is_told x) 1 0) C (c + 1))
+
+-- one field, written in k bytes lent from `at` on
+pub top_written : (J o out last field : List ℕ) (at k : ℕ) → length J ≡ at → o ≡ J ++ drop at out → k ≡ 8 → last ≡ field → put_mid at k o last ≡ (J ++ field) ++ drop (at + 8) out
+top_written J o out last field at k lJ eo ek el =
+    let t : take at o ≡ J = ap (take at) eo ∙ take_at J (drop at out) at lJ in
+    let d : drop at o ≡ drop at out = ap (drop at) eo ∙ drop_at J (drop at out) at lJ in
+    let f : drop k (drop at o) ≡ drop (at + 8) out = ap (λ n. drop n (drop at o)) ek ∙ ap (drop 8) d ∙ drop-drop 8 at out in
+    let a = append_assoc J field (drop (at + 8) out) in
+    cc

@@ -6,25 +6,22 @@ use Rattle.refusals.specs.declared.Refusal.{Refusal}
 use Rattle.refusals.specs.declared.Refusal.TheVariants.{OutOfOrder, WrongLength, OutOfRange}
 use Rattle.values.specs.BigEndian.{from_bytes}
 use Rattle.dvvset.proofs.Lists.{bounded_set}
-use Rattle.formats.specs.Reading.{Head, Keyed, Told, then, in_front, rising, tagged, head, top_told, context_reading}
+use Rattle.formats.specs.Reading.{Keyed, Told, then, in_front, rising, tagged, top_told, context_reading}
 use Rattle.formats.proofs.Steps.{ok_same, then_ok, unless_ok}
 use Rattle.formats.proofs.Walking.{turn_here, turn_later, walk_end, walk_past, walk_refused}
-use Rattle.cursor.specs.Seen.{a_top, shown, top_seen}
-use Rattle.cursor.specs.declared.fields.Field.{Field}
-use Rattle.cursor.proofs.Founds.{head_rest, tagged_rest}
+use Rattle.cursor.specs.Seen.{HeadShown, TopShown, head_seen, top_seen}
+use Rattle.cursor.proofs.Founds.{head-found, shown_refused, tagged_rest}
 
 -- ---- the field that the cursor hands out
 
-pub here_seen : (at : ℕ) (bytes bs : List ℕ) (x y : Field) → x ≡ y → Ok (shown x) ≡ top_seen at (drop at bytes) → bytes ≡ bs → Ok (shown y) ≡ top_seen at (drop at bs)
-here_seen at bytes bs x y e h is = ap (λ f. Ok (shown f)) (sym e) ∙ h ∙ ap (λ d. top_seen at (drop at d)) is
+pub record FoundTop (at : ℕ) (bs : List ℕ) (s : TopShown) : Type 0 where
+  pub here : s.at ≡ at
+  pub is : top_told at bs ≡ Ok (record { column = s.column; what = s.top; next = at + 8; rest = drop 8 bs })
+  pub low : s.column ≤ 23
+  pub top_low : s.top ≤ 999999
+  pub five : length s.bytes ≡ 5
 
-pub record FoundTop (at : ℕ) (bs : List ℕ) (c t : ℕ) : Type 0 where
-  pub is : top_told at bs ≡ Ok (record { column = c; what = t; next = at + 8; rest = drop 8 bs })
-  pub low : c ≤ 23
-  pub top_low : t ≤ 999999
-  pub long : 8 ≤ length bs
-
-top_rest : (at : ℕ) (bs : List ℕ) (f : Told ℕ) → top_told at bs ≡ Ok f → FoundTop at bs f.column f.what
+top_rest : (at : ℕ) (bs : List ℕ) (f : Told ℕ) → top_told at bs ≡ Ok f → FoundTop at bs (record { column = f.column; top = f.what; bytes = take 5 (drop 3 bs); at = at })
 top_rest at bs f e =
     let u = then_ok (tagged 4 at bs) _ f e in
     let bd = u.0.body in
@@ -38,31 +35,17 @@ top_rest at bs f e =
     let q = and_parts (leb 1 t) _ p.1 in
     rw (← ok_same x.1)
     (record {
+      here = refl;
       is = e ∙ sym x.1 ∙ ap (λ k. Ok (record { column = c; what = t; next = at + (3 + k); rest = u.0.rest })) five ∙ ap (λ d. Ok (record { column = c; what = t; next = at + 8; rest = d })) (r.0 ∙ ap (λ k. drop (3 + k) bs) five);
       low = leb-true c 23 p.0;
       top_low = leb-true t 999999 q.1;
-      long = omega (arith, r.1);
+      five = length-take-le 5 (drop 3 bs) (omega (arith, length-drop 3 bs, r.1));
     })
 
-pub top-found : (at : ℕ) (bs : List ℕ) (c t : ℕ) (body : List ℕ) (p : ℕ) → Ok (a_top c t body p) ≡ top_seen at bs → (p ≡ at) × FoundTop at bs c t × (length body ≡ 5)
-top-found at bs c t body p e =
+pub top-found : (at : ℕ) (bs : List ℕ) (s : TopShown) → Ok s ≡ top_seen at bs → FoundTop at bs s
+top-found at bs s e =
     let u = then_ok (top_told at bs) _ _ (sym e) in
-    same u.0 (ok_same u.2) (top_rest at bs u.0 u.1)
-  where
-    same : (f : Told ℕ) → a_top f.column f.what (take 5 (drop 3 bs)) at ≡ a_top c t body p → FoundTop at bs f.column f.what → (p ≡ at) × FoundTop at bs c t × (length body ≡ 5)
-    same f q w =
-        let c_is : f.column ≡ c = cc in
-        let t_is : f.what ≡ t = cc in
-        let p_is : p ≡ at = cc in
-        let b_is : body ≡ take 5 (drop 3 bs) = cc in
-        (p_is, rw (← c_is, ← t_is) w, ap length b_is ∙ length-take-le 5 (drop 3 bs) (omega (arith, length-drop 3 bs, w.long)))
-
-pub top_refused : (at : ℕ) (bs : List ℕ) (e : Refusal) → Err e ≡ top_seen at bs → top_told at bs ≡ Err e
-top_refused at bs e = go (top_told at bs)
-  where
-    go : (r : Result (Told ℕ) Refusal) → Err e ≡ then r (λ f. Ok (a_top f.column f.what (take 5 (drop 3 bs)) at)) → r ≡ Err e
-    go (Ok f) h = absurd (let z : ◌≡◌ {A = ℕ} 0 1 = cc in omega arith)
-    go (Err x) h = let p : x ≡ e = cc in ap Err p
+    rw (← ok_same u.2) (top_rest at bs u.0 u.1)
 
 -- ---- the walk
 
@@ -100,37 +83,52 @@ module _ (bs : List ℕ) where
   abbrev read : ℕ → ℕ → Result (List ℕ) Refusal
   read c at = rising top_told 0 (24 - c) c at (drop at bs)
 
+  -- with the key, as a context is read
+  abbrev with_key : ℕ → Result (List ℕ) Refusal → Result (Keyed (List ℕ)) Refusal
+  with_key key r = then r (λ C. Ok (record { key = key; what = C }))
+
   -- the columns below `from` are read, and the others are 0 so far
-  pub record Midway (at from : ℕ) (tops : List ℕ) : Type 0 where
+  pub record Midway (key at from : ℕ) (tops : List ℕ) : Type 0 where
     pub within : from ≤ 24
-    pub read_so_far : read 0 4 ≡ behind (take from tops) (read from at)
+    pub so_far : context_reading bs ≡ with_key key (behind (take from tops) (read from at))
     pub rest : drop from tops ≡ replicate (24 - from) 0
     pub low : (c : ℕ) → get_or tops c 0 ≤ 999999
 
-  pub starts : Midway 4 0 (replicate 24 0)
-  starts = record { within = omega arith; read_so_far = whole (read 0 4); rest = refl; low = zero_all 24 }
+  pub head_refused : (e : Refusal) → Err e ≡ head_seen 3 0 bs → Err e ≡ context_reading bs
+  unfolding context_reading
+  head_refused e h = sym (ap (λ r. then r (λ x. with_key x.key (rising top_told 0 24 0 4 x.rest))) (shown_refused _ _ e h))
+
+  pub head_read : (s : HeadShown) → Ok s ≡ head_seen 3 0 bs → (length s.bytes ≡ 1) × Midway s.key 4 0 (replicate 24 0)
+  unfolding context_reading
+  head_read s h =
+      let f = head-found 3 0 bs s h in
+      (f.1, record { within = omega arith; so_far = ap (λ r. then r (λ x. with_key x.key (rising top_told 0 24 0 4 x.rest))) f.0.is ∙ ap (with_key s.key) (whole (read 0 4)); rest = refl; low = zero_all 24 })
     where
       whole : (r : Result (List ℕ) Refusal) → r ≡ behind [] r
       whole (Ok xs) = refl
       whole (Err e) = refl
 
-  module _ (at from : ℕ) (tops : List ℕ) (mid : Midway at from tops) where
-    pub at_the_end : length bs ≤ at → Ok tops ≡ read 0 4
+  module _ (key at from : ℕ) (tops : List ℕ) (mid : Midway key at from tops) where
+    pub at_the_end : length bs ≤ at → Ok (record { key = key; what = tops }) ≡ context_reading bs
     at_the_end l =
-        sym (mid.read_so_far ∙ ap (λ d. behind (take from tops) (rising top_told 0 (24 - from) from at d)) (drop_all at bs l) ∙ ap (behind (take from tops)) (walk_end top_told 0 (λ a. refl) (24 - from) from at) ∙ ap (λ xs. Ok (take from tops ++ xs)) (sym mid.rest) ∙ ap Ok (take-append-drop from tops))
+        let none_left = ap (rising top_told 0 (24 - from) from at) (drop_all at bs l) ∙ walk_end top_told 0 (λ a. refl) (24 - from) from at in
+        sym (mid.so_far ∙ ap (λ r. with_key key (behind (take from tops) r)) none_left ∙ ap (λ xs. Ok (record { key = key; what = take from tops ++ xs })) (sym mid.rest) ∙ ap (λ xs. Ok (record { key = key; what = xs })) (take-append-drop from tops))
 
-    pub at_refused : (e : Refusal) → at < length bs → Err e ≡ top_seen at (drop at bs) → Err e ≡ read 0 4
-    at_refused e l h = sym (mid.read_so_far ∙ ap (behind (take from tops)) (walk_refused top_told 0 (λ a. refl) (24 - from) from at (drop at bs) e (simp length-drop (omega arith)) (top_refused at (drop at bs) e h)))
+    pub at_refused : (e : Refusal) → at < length bs → Err e ≡ top_seen at (drop at bs) → Err e ≡ context_reading bs
+    at_refused e l h = sym (mid.so_far ∙ ap (λ r. with_key key (behind (take from tops) r)) (walk_refused top_told 0 (λ a. refl) (24 - from) from at (drop at bs) e (simp length-drop (omega arith)) (shown_refused _ _ e h)))
 
-    module _ (j t : ℕ) (body : List ℕ) (p : ℕ) (h : Ok (a_top j t body p) ≡ top_seen at (drop at bs)) where
-      pub at_past : j < from → Err (OutOfOrder p) ≡ read 0 4
+    module _ (s : TopShown) (h : Ok s ≡ top_seen at (drop at bs)) where
+      pub at_past : s.column < from → Err (OutOfOrder s.at) ≡ context_reading bs
       at_past l =
-          let f = top-found at (drop at bs) j t body p h in
-          sym (mid.read_so_far ∙ ap (behind (take from tops)) (walk_past top_told 0 (λ a. refl) (24 - from) from at (drop at bs) _ f.1.is l) ∙ ap (λ q. Err (OutOfOrder q)) (sym f.0))
+          let f = top-found at (drop at bs) s h in
+          sym (mid.so_far ∙ ap (λ r. with_key key (behind (take from tops) r)) (walk_past top_told 0 (λ a. refl) (24 - from) from at (drop at bs) _ f.is l) ∙ ap (λ q. Err (OutOfOrder q)) (sym f.here))
 
-      pub at_next : from ≤ j → Midway (at + 8) (j + 1) (set tops j t)
+      pub at_next : from ≤ s.column → Midway key (at + (3 + length s.bytes)) (s.column + 1) (set tops s.column s.top)
       at_next l =
-          let f = (top-found at (drop at bs) j t body p h).1 in
+          let f = top-found at (drop at bs) s h in
+          let five = f.five in
+          let j = s.column in
+          let t = s.top in
           let k : ℕ = j - from in
           let A = take from tops in
           let R : List ℕ = replicate k 0 ++ (t ∷ []) in
@@ -147,9 +145,9 @@ module _ (bs : List ℕ) where
           let now : set tops j t ≡ (A ++ R) ++ Z =
           ap (λ xs. set xs j t) tops_are ∙ set-append_right A (replicate (24 - from) 0) from j t lA l ∙ ap (λ xs. A ++ xs) (zeros-set (24 - from) k t (omega arith) ∙ ap (λ n. replicate k 0 ++ (t ∷ replicate n 0)) left ∙ sym (append_assoc (replicate k 0) (t ∷ []) Z)) ∙ sym (append_assoc A R Z) in
           let lR : length (A ++ R) ≡ j + 1 = omega (arith, length-append A R, length-append (replicate k 0) (t ∷ []), length-replicate {A = ℕ} k 0) in
-          record {
+          rw five record {
             within = omega arith;
-            read_so_far = mid.read_so_far ∙ ap (behind A) on ∙ both A R X ∙ ap (λ d. behind (A ++ R) (rising top_told 0 (24 - (j + 1)) (j + 1) (at + 8) d)) (drop-drop 8 at bs) ∙ ap (λ xs. behind xs (read (j + 1) (at + 8))) (sym (ap (take (j + 1)) now ∙ take_at (A ++ R) Z (j + 1) lR));
+            so_far = mid.so_far ∙ ap (with_key key) (ap (behind A) on ∙ both A R X ∙ ap (λ d. behind (A ++ R) (rising top_told 0 (24 - (j + 1)) (j + 1) (at + 8) d)) (drop-drop 8 at bs) ∙ ap (λ xs. behind xs (read (j + 1) (at + 8))) (sym (ap (take (j + 1)) now ∙ take_at (A ++ R) Z (j + 1) lR)));
             rest = ap (drop (j + 1)) now ∙ drop_at (A ++ R) Z (j + 1) lR;
             low = bounded_set 999999 j t tops f.top_low mid.low;
           }
@@ -157,20 +155,3 @@ module _ (bs : List ℕ) where
           both : (xs ys : List ℕ) (r : Result (List ℕ) Refusal) → behind xs (behind ys r) ≡ behind (xs ++ ys) r
           both xs ys (Ok zs) = ap Ok (sym (append_assoc xs ys zs))
           both xs ys (Err e) = refl
-
-  -- ---- behind the head
-
-  pub key_refused : (e : Refusal) → Err e ≡ then (head 3 0 bs) (λ h. Ok h.key) → Err e ≡ context_reading bs
-  unfolding context_reading
-  key_refused e = go (head 3 0 bs)
-    where
-      go : (r : Result Head Refusal) → Err e ≡ then r (λ h. Ok h.key) → ◌≡◌ {A = Result (Keyed (List ℕ)) Refusal} (Err e) (then r (λ h. then (rising top_told 0 24 0 4 h.rest) (λ C. Ok (record { key = h.key; what = C }))))
-      go (Ok h) q = absurd (let z : ◌≡◌ {A = ℕ} 0 1 = cc in omega arith)
-      go (Err x) q = let p : e ≡ x = cc in ap Err p
-
-  pub key_read : (key : ℕ) → Ok key ≡ then (head 3 0 bs) (λ h. Ok h.key) → (4 ≤ length bs) × (context_reading bs ≡ then (read 0 4) (λ C. Ok (record { key = key; what = C })))
-  unfolding context_reading
-  key_read key e =
-      let u = then_ok (head 3 0 bs) _ key (sym e) in
-      let f = head_rest 3 0 bs u.0 u.1 in
-      (f.long, ap (λ r. then r (λ h. then (rising top_told 0 24 0 4 h.rest) (λ C. Ok (record { key = h.key; what = C })))) f.is ∙ ap (λ k. then (read 0 4) (λ C. Ok (record { key = k; what = C }))) (ok_same u.2))

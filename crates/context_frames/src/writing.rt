@@ -1,77 +1,17 @@
 // The bytes of a context, written to the front of lent memory.
-ghost use Rattle.std.specs.Prelude.{◌≡◌, ◌+◌, ◌≤◌, [], ◌∷◌, ◌++◌, length, take, drop, if◌then◌else◌, nat_eq};
+ghost use Rattle.std.specs.Prelude.{◌≡◌, ◌+◌, ◌*◌, count_by, nat_eq, not};
 ghost use Rattle.dvvset.specs.Clock.{after, answer};
-ghost use Rattle.formats.specs.Frames.{context_frame, head_field, top_field};
-ghost use Rattle.context_frames.specs.Laying.{tops_laid, writing_context};
+ghost use Rattle.context_frames.specs.Laying.{writing_context};
 
 use clock::Context;
+use cursor::tags;
 use refusals::Refusal;
 
-// How long the field of a top is: 0 has none.
-fn top_size(c: u8, top: u32) -> usize
-    ensures size { result ≡ length (if nat_eq top 0 then [] else top_field c top) }
-    ensures most { result ≤ 8 }
-{
-    if top == 0 { 0 } else { 8 }
-}
-
-// How long the bytes of the context are.
+// How long the bytes of the context are: eight for each top that is not 0.
 fn context_size(context: &Context) -> usize
-    ensures { result ≡ 4 + length (tops_laid context.now.tops) }
+    ensures { result ≡ 4 + 8 * count_by (λ t. not (nat_eq t 0)) context.now.tops }
 {
-    let mut n = 4;
-    for c in 0..24 {
-        n += top_size(c as u8, context.tops[c]);
-    }
-    n
-}
-
-// The head of a context: tag (1), length (2), key (1).
-fn write_head(key: u8, out: &mut [u8])
-    requires { 4 ≤ length out.old }
-    ensures { out.new ≡ head_field 3 key ++ drop 4 out.old }
-{
-    out[0] = 3;
-    out[1] = 0;
-    out[2] = 1;
-    out[3] = key;
-}
-
-// The field of a top: tag (1), length (2), column (1), top (4).
-fn write_top(c: u8, top: u32, out: &mut [u8])
-    requires { 8 ≤ length out.old }
-    ensures { out.new ≡ top_field c top ++ drop 8 out.old }
-{
-    let bytes = top.to_be_bytes();
-    out[0] = 4;
-    out[1] = 0;
-    out[2] = 5;
-    out[3] = c;
-    (&mut out[4..8]).copy_from_slice(&bytes);
-}
-
-// The field of a top at `at`, unless it is 0; the answer is the place behind it.
-fn write_field(c: u8, top: u32, out: &mut [u8], at: usize) -> usize
-    requires { at + length (if nat_eq top 0 then [] else top_field c top) ≤ length out.old }
-    ensures at { result ≡ at + length (if nat_eq top 0 then [] else top_field c top) }
-    ensures out { out.new ≡ take at out.old ++ ((if nat_eq top 0 then [] else top_field c top) ++ drop result out.old) }
-{
-    if top == 0 {
-        return at;
-    }
-    write_top(c, top, &mut out[at..at + 8]);
-    at + 8
-}
-
-// The tops, behind the head's four bytes.
-fn write_tops(context: &Context, out: &mut [u8])
-    requires { 4 + length (tops_laid context.now.tops) ≤ length out.old }
-    ensures { out.new ≡ (take 4 out.old ++ tops_laid context.now.tops) ++ drop (4 + length (tops_laid context.now.tops)) out.old }
-{
-    let mut at = 4;
-    for c in 0..24 {
-        at = write_field(c as u8, context.tops[c], out, at);
-    }
+    4 + 8 * context.tops.iter().filter(|&&top| top != 0).count()
 }
 
 // The context of a key at the front of `out`; the answer is how many bytes it has.
@@ -86,7 +26,17 @@ pub fn write_context(key: u8, context: &Context, out: &mut [u8]) -> Result<usize
     if out.len() < size {
         return Err(Refusal::ShortMemory);
     }
-    write_head(key, out);
-    write_tops(context, out);
+    // tag (1), length (2), key (1)
+    out[..4].copy_from_slice(&[tags::CONTEXT, 0, 1, key]);
+    // by its place: after `chunks_exact_mut` nothing is known of what was written
+    let mut at = 4;
+    for (c, &top) in context.tops.iter().enumerate() {
+        if top != 0 {
+            // tag (1), length (2), column (1), top (4)
+            let [t0, t1, t2, t3] = top.to_be_bytes();
+            out[at..at + 8].copy_from_slice(&[tags::TOP, 0, 5, c as u8, t0, t1, t2, t3]);
+            at += 8;
+        }
+    }
     Ok(size)
 }

@@ -1,5 +1,5 @@
 -- What a cursor's step tells of the bytes. Assumes nothing.
-use Rattle.std.proofs.Common.{◌≡◌, ℕ, ◌+◌, ◌*◌, ◌≤◌, eqb, leb, List, [], ◌∷◌, length, get_or, take, drop, Ok, Err, Result, sym, ap, ◌∙◌, arith}
+use Rattle.std.proofs.Common.{◌≡◌, ℕ, ◌+◌, ◌*◌, ◌≤◌, eqb, leb, List, [], ◌∷◌, length, get_or, take, drop, Ok, Err, Result, sym, refl, ap, ◌∙◌, arith}
 use Rattle.std.proofs.lemmas.List.{length-drop, length-take-le, drop-drop}
 use Rattle.std.proofs.lemmas.Bool.{leb-true, eqb-true, and_parts}
 use Rattle.refusals.specs.declared.Refusal.{Refusal}
@@ -7,7 +7,7 @@ use Rattle.refusals.specs.declared.Refusal.TheVariants.{Truncated, UnexpectedTag
 use Rattle.values.specs.BigEndian.{from_bytes}
 use Rattle.formats.specs.Reading.{Field as FieldBytes, Head as HeadBytes, Raw, then, framed, tagged, head, in_range, raw_column}
 use Rattle.formats.proofs.Steps.{ok_same, then_ok, unless_ok}
-use Rattle.cursor.specs.Seen.{a_head, a_column, a_top, head_seen, column_seen}
+use Rattle.cursor.specs.Seen.{HeadShown, ColumnShown, head_seen, column_seen}
 
 -- a field ends where its length says
 framed_rest : (at : ℕ) (bs : List ℕ) (f : FieldBytes) → framed at bs ≡ Ok f → (f.rest ≡ drop (3 + length f.body) bs) × (3 + length f.body ≤ length bs)
@@ -46,24 +46,21 @@ head_rest due at bs h e =
     let p : h ≡ record { key = h.key; rest = drop 4 bs } = ap (λ d. record { key = h.key; rest = d }) (ap (λ q. q.rest) (sym (ok_same w.1)) ∙ r.0 ∙ ap (λ k. drop (3 + k) bs) one) in
     record { is = e ∙ ap Ok p; low = rw (← ok_same w.1) (leb-true (get_or bd 0 0) 15 w.0); long = omega (arith, r.1) }
 
-pub head-found : (due at : ℕ) (bs : List ℕ) (key : ℕ) (body : List ℕ) (p : ℕ) → Ok (a_head key body p) ≡ head_seen due at bs → FoundHead due at bs key
-head-found due at bs key body p e =
+pub head-found : (due at : ℕ) (bs : List ℕ) (s : HeadShown) → Ok s ≡ head_seen due at bs → FoundHead due at bs s.key × (length s.bytes ≡ 1)
+head-found due at bs s e =
     let u = then_ok (head due at bs) _ _ (sym e) in
-    let k : u.0.key ≡ key = let q = ok_same u.2 in cc in
-    rw (← k) (head_rest due at bs u.0 u.1)
+    let f = head_rest due at bs u.0 u.1 in
+    rw (← ok_same u.2) (f, length-take-le 1 (drop 3 bs) (omega (arith, length-drop 3 bs, f.long)))
 
 -- ---- a column
 
-pub record FoundColumn (w at : ℕ) (bs : List ℕ) (c n t : ℕ) (vs : List ℕ) : Type 0 where
-  pub is : raw_column w at bs ≡ Ok (record { column = c; count = n; top = t; values = vs; next = at + (9 + length vs); rest = drop (9 + length vs) bs })
-  pub low : c ≤ 23
-  pub few : n ≤ 4
-  pub within : n ≤ t
-  pub some : 1 ≤ t
-  pub top_low : t ≤ 999999
-  pub long : length vs ≡ w * n
+pub record FoundColumn (w at : ℕ) (bs : List ℕ) (s : ColumnShown) : Type 0 where
+  pub here : s.at ≡ at
+  pub is : raw_column w at bs ≡ Ok (record { column = s.column; count = s.count; top = s.top; values = s.values; next = at + (9 + length s.values); rest = drop (9 + length s.values) bs })
+  pub low : s.column ≤ 23
+  pub long : length s.values ≡ w * s.count
 
-column_rest : (w at : ℕ) (bs : List ℕ) (r : Raw) → raw_column w at bs ≡ Ok r → FoundColumn w at bs r.column r.count r.top r.values
+column_rest : (w at : ℕ) (bs : List ℕ) (r : Raw) → raw_column w at bs ≡ Ok r → FoundColumn w at bs (record { column = r.column; count = r.count; top = r.top; values = r.values; at = at })
 column_rest w at bs r e =
     let u = then_ok (tagged 2 at bs) _ r e in
     let bd = u.0.body in
@@ -78,45 +75,21 @@ column_rest w at bs r e =
     let exact = eqb-true (length bd) (6 + w * n) y.0 in
     let l = length-drop 6 bd in
     let p = and_parts (leb c 23) _ x.0 in
-    let q = and_parts (leb n 4) _ p.1 in
-    let s = and_parts (leb n t) _ q.1 in
-    let z = and_parts (leb 1 t) _ s.1 in
     let span : 3 + length bd ≡ 9 + length (drop 6 bd) = omega arith in
     rw (← ok_same y.1)
     (record {
+      here = refl;
       is = e ∙ sym y.1 ∙ ap (λ k. Ok (record { column = c; count = n; top = t; values = drop 6 bd; next = at + k; rest = u.0.rest })) span ∙ ap (λ d. Ok (record { column = c; count = n; top = t; values = drop 6 bd; next = at + (9 + length (drop 6 bd)); rest = d })) (f.0 ∙ ap (λ k. drop k bs) span);
       low = leb-true c 23 p.0;
-      few = leb-true n 4 q.0;
-      within = leb-true n t s.0;
-      some = leb-true 1 t z.0;
-      top_low = leb-true t 999999 z.1;
       long = omega arith;
     })
 
-pub column-found : (w at : ℕ) (bs : List ℕ) (c n t : ℕ) (vs : List ℕ) (p : ℕ) → Ok (a_column c n t vs p) ≡ column_seen w at bs → (p ≡ at) × FoundColumn w at bs c n t vs
-column-found w at bs c n t vs p e =
+pub column-found : (w at : ℕ) (bs : List ℕ) (s : ColumnShown) → Ok s ≡ column_seen w at bs → FoundColumn w at bs s
+column-found w at bs s e =
     let u = then_ok (raw_column w at bs) _ _ (sym e) in
-    same u.0 (ok_same u.2) (column_rest w at bs u.0 u.1)
-  where
-    same : (r : Raw) → a_column r.column r.count r.top r.values at ≡ a_column c n t vs p → FoundColumn w at bs r.column r.count r.top r.values → (p ≡ at) × FoundColumn w at bs c n t vs
-    same r q f =
-        let c_is : r.column ≡ c = cc in
-        let n_is : r.count ≡ n = cc in
-        let t_is : r.top ≡ t = cc in
-        let v_is : r.values ≡ vs = cc in
-        let p_is : p ≡ at = cc in
-        (p_is, rw (← c_is, ← n_is, ← t_is, ← v_is) f)
+    rw (← ok_same u.2) (column_rest w at bs u.0 u.1)
 
-pub column_refused : (w at : ℕ) (bs : List ℕ) (e : Refusal) → Err e ≡ column_seen w at bs → raw_column w at bs ≡ Err e
-column_refused w at bs e = go (raw_column w at bs)
-  where
-    go : (r : Result Raw Refusal) → Err e ≡ then r (λ q. Ok (a_column q.column q.count q.top q.values at)) → r ≡ Err e
-    go (Ok r) h = absurd (let z : ◌≡◌ {A = ℕ} 0 1 = cc in omega arith)
-    go (Err x) h = let p : x ≡ e = cc in ap Err p
-
--- no other field comes of it
-pub not_head : (w at : ℕ) (bs : List ℕ) (key : ℕ) (body : List ℕ) (p : ℕ) → Ok (a_head key body p) ≡ column_seen w at bs → ⊥
-not_head w at bs key body p e = let u = then_ok (raw_column w at bs) _ _ (sym e) in let q = u.2 in let z : ◌≡◌ {A = ℕ} 0 1 = cc in omega arith
-
-pub not_top : (w at : ℕ) (bs : List ℕ) (c t : ℕ) (body : List ℕ) (p : ℕ) → Ok (a_top c t body p) ≡ column_seen w at bs → ⊥
-not_top w at bs c t body p e = let u = then_ok (raw_column w at bs) _ _ (sym e) in let q = u.2 in let z : ◌≡◌ {A = ℕ} 0 1 = cc in omega arith
+-- what shows a refusal is one
+pub shown_refused : {A B : Type 0} (show : A → B) (r : Result A Refusal) (e : Refusal) → ◌≡◌ {A = Result B Refusal} (Err e) (then r (λ a. Ok (show a))) → r ≡ Err e
+shown_refused show (Ok a) e h = absurd (let z : ◌≡◌ {A = ℕ} 0 1 = cc in omega arith)
+shown_refused show (Err x) e h = let p : x ≡ e = cc in ap Err p

@@ -3,7 +3,8 @@
 
 mod cursors;
 mod fields;
-mod steps;
+mod framing;
+pub mod tags;
 
 pub use cursors::Cursor;
-pub use fields::Field;
+pub use fields::{ColumnField, Entry, Field, Head, TopField};

@@ -6,7 +6,7 @@ pub struct Dot {
 }
 
 // A value that stands in a state, under its dot.
-#[derive(Clone, Copy)]
+#[derive(Clone, Copy, PartialEq, Eq, Debug)]
 pub struct Sibling<V> {
     pub dot: Dot,
     pub value: V,

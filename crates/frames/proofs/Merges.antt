@@ -1,21 +1,21 @@
 -- A walk that merges each column of a checked frame into a state. Assumes nothing.
 use Rattle.std.proofs.Common.{◌≡◌, ℕ, suc, ◌+◌, ◌-◌, ◌*◌, ◌<◌, ◌≤◌, true, List, length, get_or, take, drop, set, is_ok, Ok, Err, Result, sym, refl, ap, ◌∙◌, ⊎_elim, arith}
 use borrow.Rule.Slice.PartMut.{put_mid}
-use Rattle.std.proofs.lemmas.List.{length-drop, drop_all, drop-drop, drop-set-lt, get_or-drop, get_or-replicate}
+use Rattle.std.proofs.lemmas.List.{drop_all, drop-drop, drop-set-lt, get_or-drop, get_or-replicate}
 use Rattle.std.proofs.lemmas.Slice.{drop-put_mid}
 use Rattle.std.proofs.lemmas.Bool.{cases_lt}
 use Rattle.refusals.specs.declared.Refusal.{Refusal}
-use Rattle.dvvset.specs.Clock.{State, no_writes, merge, merge_column}
+use Rattle.dvvset.specs.Clock.{ColumnState, State, no_writes, merge, merge_column}
 use Rattle.dvvset.proofs.Merging.{merge_nothing}
 use Rattle.dvvset.proofs.Zips.{upto, upto_more, upto_all, upto_skip}
 use Rattle.clock.specs.Memory.{column, no_row, state}
 use Rattle.clock.specs.declared.rows.Row.{Row}
 use Rattle.clock.proofs.Whole.{length-state, read-column, state_legal, state-put}
-use Rattle.formats.specs.Reading.{Keyed, then, head, column_of, column_told, reading, rising, values_of}
+use Rattle.formats.specs.Reading.{Keyed, head, column_told, reading, rising, values_of}
 use Rattle.formats.proofs.Steps.{ok_same, then_ok}
-use Rattle.formats.proofs.Walking.{walk_end, walk_found, walk_refused, walk_past}
-use Rattle.cursor.specs.Seen.{a_column, column_seen}
-use Rattle.cursor.proofs.Founds.{column-found, column_refused, head_rest}
+use Rattle.formats.proofs.Walking.{walk_end, walk_found, walk_past}
+use Rattle.cursor.specs.Seen.{ColumnShown, column_seen}
+use Rattle.cursor.proofs.Founds.{column-found, head_rest}
 use Rattle.frames.specs.Taking.{state_read}
 use Rattle.frames.proofs.Walks as walks
 
@@ -58,18 +58,16 @@ module _ {V : Type 0} (w : ℕ) (value_of : List ℕ → V) (bs : List ℕ) wher
       skipped c d l m none = upto_skip merge_column c d (state rows₀ cells₀) T no_writes no_writes l (omega (arith, length-state rows₀ cells₀)) (omega arith) (λ i p q. stays i (none i p q))
 
       module _ (at : ℕ) (rows : List Row) (cells : List V) (mid : Midway at rows cells) where
-        -- no field is refused
-        pub never_refused : (e : Refusal) → at < length bs → Err e ≡ column_seen w at (drop at bs) → ⊥
-        never_refused e l h =
-            let r = walk_refused (column_told w value_of) no_writes (λ p. refl) (24 - mid.from) mid.from at (drop at bs) e (simp length-drop (omega arith)) (ap (λ q. then q (λ x. Ok (column_of w value_of x))) (column_refused w at (drop at bs) e h)) in
-            let s = mid.left in
-            let z : ◌≡◌ {A = ℕ} 0 1 = cc in
-            omega arith
+        -- only the end is refused
+        ended : (e : Refusal) → Err e ≡ column_seen w at (drop at bs) → length bs ≤ at
+        ended e h =
+            ⊎_elim (λ (l : at < length bs). absurd (let r = walks.refused_here w value_of bs mid.from at e l h in let s = mid.left in let z : ◌≡◌ {A = ℕ} 0 1 = cc in omega arith)) (λ (l : length bs ≤ at). l) (cases_lt at (length bs))
 
         -- at the end
-        pub finished : length bs ≤ at → state rows cells ≡ merge (state rows₀ cells₀) T
+        pub finished : (e : Refusal) → Err e ≡ column_seen w at (drop at bs) → state rows cells ≡ merge (state rows₀ cells₀) T
         unfolding merge
-        finished l =
+        finished why refused =
+            let l = ended why refused in
             let e = walk_end (column_told w value_of) no_writes (λ p. refl) (24 - mid.from) mid.from at in
             let s = sym mid.left ∙ ap (λ d. rising (column_told w value_of) no_writes (24 - mid.from) mid.from at d) (drop_all at bs l) ∙ e in
             mid.done
@@ -77,31 +75,38 @@ module _ {V : Type 0} (w : ℕ) (value_of : List ℕ → V) (bs : List ℕ) wher
             ∙ upto_all merge_column 24 (state rows₀ cells₀) T (length-state rows₀ cells₀) wide
 
         -- at a field
-        module _ (j n t : ℕ) (vs : List ℕ) (p : ℕ) (h : Ok (a_column j n t vs p) ≡ column_seen w at (drop at bs)) where
-          told_there : column_told w value_of at (drop at bs) ≡ Ok (record { column = j; what = record { top = t; values = values_of w value_of n vs }; next = at + (9 + length vs); rest = drop (at + (9 + length vs)) bs })
-          told_there = walks.told_here w value_of bs at j n t vs (column-found w at (drop at bs) j n t vs p h).1
+        module _ (s : ColumnShown) (h : Ok s ≡ column_seen w at (drop at bs)) where
+          abbrev j : ℕ
+          j = s.column
+
+          -- the column that it tells
+          abbrev theirs : ColumnState V
+          theirs = record { top = s.top; values = values_of w value_of s.count s.values }
+
+          told_there : column_told w value_of at (drop at bs) ≡ Ok (record { column = j; what = theirs; next = at + (9 + length s.values); rest = drop (at + (9 + length s.values)) bs })
+          told_there = walks.told_here w value_of bs at s (column-found w at (drop at bs) s h)
 
           ahead : mid.from ≤ j
           ahead = ⊎_elim (λ (l : j < mid.from). absurd (let r = walk_past (column_told w value_of) no_writes (λ q. refl) (24 - mid.from) mid.from at (drop at bs) _ told_there l in let s = mid.left in let z : ◌≡◌ {A = ℕ} 0 1 = cc in omega arith)) (λ (l : mid.from ≤ j). l) (cases_lt j mid.from)
 
           -- k is 4 * j + 4 - 4 * j
-          pub onward : (r : Row) (k : ℕ) (ys : List V) → 24 ≤ length rows → 96 ≤ length cells → k ≡ 4 → length ys ≡ 4 → column r ys ≡ merge_column (column (get_or rows j no_row) (take k (drop (4 * j) cells))) (record { top = t; values = values_of w value_of n vs }) → Midway (at + (9 + length vs)) (set rows j r) (put_mid (4 * j) k cells ys)
+          pub onward : (r : Row) (k : ℕ) (ys : List V) → 24 ≤ length rows → 96 ≤ length cells → k ≡ 4 → length ys ≡ 4 → column r ys ≡ merge_column (column (get_or rows j no_row) (take k (drop (4 * j) cells))) theirs → Midway (at + (9 + length s.values)) (set rows j r) (put_mid (4 * j) k cells ys)
           onward r k ys long room four len is =
-              let f = (column-found w at (drop at bs) j n t vs p h).1 in
+              let f = (column-found w at (drop at bs) s h) in
               let low : j < 24 = omega (arith, f.low) in
               let a = ahead in
               let size : 24 - mid.from ≡ (j - mid.from) + suc (24 - (j + 1)) = omega arith in
               let x = walk_found (column_told w value_of) no_writes (λ q. refl) (j - mid.from) (24 - (j + 1)) mid.from at (drop at bs) _ (drop mid.from T) told_there (omega arith) (ap (λ m. rising (column_told w value_of) no_writes m mid.from at (drop at bs)) (sym size) ∙ mid.left) in
               let j_is : mid.from + (j - mid.from) ≡ j = omega arith in
               let next_is : mid.from + (j - mid.from + 1) ≡ j + 1 = omega arith in
-              let here : get_or T j no_writes ≡ record { top = t; values = values_of w value_of n vs } = ap (λ m. get_or T m no_writes) (sym j_is) ∙ sym (get_or-drop mid.from T (j - mid.from) no_writes) ∙ x.here in
+              let here : get_or T j no_writes ≡ theirs = ap (λ m. get_or T m no_writes) (sym j_is) ∙ sym (get_or-drop mid.from T (j - mid.from) no_writes) ∙ x.here in
               let skip = mid.done ∙ skipped mid.from j a (omega arith) (λ i u v. let i_is : mid.from + (i - mid.from) ≡ i = omega arith in ap (λ m. get_or T m no_writes) (sym i_is) ∙ sym (get_or-drop mid.from T (i - mid.from) no_writes) ∙ x.before (i - mid.from) (omega arith)) in
               let mine = read-column rows cells j k no_writes low four in
               record {
                 from = j + 1;
                 low = omega arith;
                 left = x.rest ∙ ap Ok (drop-drop (j - mid.from + 1) mid.from T ∙ ap (λ m. drop m T) next_is);
-                done = upto_more merge_column j (state rows₀ cells₀) T no_writes no_writes (state rows cells) (state (set rows j r) (put_mid (4 * j) k cells ys)) (column r ys) (omega (arith, length-state rows₀ cells₀)) (omega arith) skip (is ∙ ap (λ m. merge_column m (record { top = t; values = values_of w value_of n vs })) mine ∙ ap (merge_column (get_or (state rows cells) j no_writes)) (sym here)) (state-put rows cells j r low long k ys four len room);
+                done = upto_more merge_column j (state rows₀ cells₀) T no_writes no_writes (state rows cells) (state (set rows j r) (put_mid (4 * j) k cells ys)) (column r ys) (omega (arith, length-state rows₀ cells₀)) (omega arith) skip (is ∙ ap (λ m. merge_column m theirs) mine ∙ ap (merge_column (get_or (state rows cells) j no_writes)) (sym here)) (state-put rows cells j r low long k ys four len room);
                 rows_beyond = drop-set-lt 24 rows j r low ∙ mid.rows_beyond;
                 cells_beyond = drop-put_mid (4 * j) k cells ys 96 (omega arith) (omega arith) (omega arith) ∙ mid.cells_beyond;
               }

@@ -6,38 +6,37 @@ ghost use Rattle.formats.specs.Reading.{reading, values_of};
 ghost use Rattle.frames.specs.Taking.{state_read};
 
 use clock::{Column, Row};
-use cursor::{Cursor, Field};
+use cursor::{ColumnField, Cursor};
 use values::Value;
 
-// Reads values to the front of the cells.
-fn read_values<V: Value>(values: &[u8], count: usize, cells: &mut [V])
-    requires cells { count ≤ length cells.old }
-    requires values { length values.now ≡ V.Value.width * count }
-    ensures { cells.new ≡ values_of V.Value.width V.Value.value_of count values.now ++ drop count cells.old }
+// Reads a field's values to the front of the cells.
+fn read_values<V: Value>(field: &ColumnField, cells: &mut [V])
+    requires cells { field.now.count ≤ length cells.old }
+    requires values { length field.now.values.now ≡ V.Value.width * field.now.count }
+    ensures { cells.new ≡ values_of V.Value.width V.Value.value_of field.now.count field.now.values.now ++ drop field.now.count cells.old }
 {
-    let w = V::width();
-    for i in 0..count {
-        let at = w * i;
-        cells[i] = V::read_from(&values[at..at + w]);
+    // the cells by index, as they are written
+    for (i, bytes) in field.values.chunks_exact(V::width()).enumerate() {
+        cells[i] = V::read_from(bytes);
     }
 }
 
-// Merges the column that a field tells into one of the key's.
-fn merge_field<V: Value>(mine: Row, cells: &mut [V], count: u8, top: u32, values: &[u8]) -> Row
+// Merges the column that a field tells into one of the key's, whose four cells are a slice as in the clock's calls.
+// The clock merges two columns by the same lines, but has the values where this reads them: a closure for that would be longer.
+fn merge_field<V: Value>(mine: Row, cells: &mut [V], field: &ColumnField) -> Row
     requires cells { length cells.old ≡ 4 }
-    requires few { count ≤ 4 }
-    requires within { count ≤ top }
-    requires low { top ≤ 999999 }
-    requires values { length values.now ≡ V.Value.width * count }
-    ensures { column result cells.new ≡ merge_column (column mine cells.old) (record { top = top; values = values_of V.Value.width V.Value.value_of count values.now }) }
+    requires values { length field.now.values.now ≡ V.Value.width * field.now.count }
+    ensures { column result cells.new ≡ merge_column (column mine cells.old) (record { top = field.now.top; values = values_of V.Value.width V.Value.value_of field.now.count field.now.values.now }) }
 {
-    let a = Column::of(mine);
-    let b = Column { top, count };
-    if b.top <= a.top {
-        return a.first(a.top - b.top + b.count as u32).row();
+    let a = Column::from(mine);
+    let b = Column {
+        top: field.top,
+        count: field.count,
+    };
+    if b.top > a.top {
+        read_values(field, cells);
     }
-    read_values(values, count as usize, cells);
-    b.first(b.top - a.top + a.count as u32).row()
+    a.merge(b).into()
 }
 
 // Merges the state of a frame that was checked into the key's.
@@ -49,32 +48,13 @@ pub(crate) fn merge_fields<V: Value>(frame: &[u8], rows: &mut [Row], cells: &mut
     ensures rows { drop 24 rows.new ≡ drop 24 rows.old }
     ensures cells { drop 96 cells.new ≡ drop 96 cells.old }
 {
+    // the head is four bytes long, and behind it only the end of a checked frame is refused
     let mut cursor = Cursor {
         bytes: frame,
         at: 4,
     };
-    'walk: while !cursor.ended() {
-        match cursor.column::<V>() {
-            Err(_) => unreachable(),
-            Ok(field) => match field {
-                Field::Column {
-                    column,
-                    count,
-                    top,
-                    values,
-                    ..
-                } => {
-                    let c = column as usize;
-                    rows[c] = merge_field(
-                        rows[c],
-                        &mut cells[4 * c..4 * c + 4],
-                        count,
-                        top,
-                        values,
-                    );
-                }
-                _ => unreachable(),
-            },
-        }
+    while let Ok(field) = cursor.column::<V>() {
+        let c = usize::from(field.column);
+        rows[c] = merge_field(rows[c], &mut cells[4 * c..4 * c + 4], &field);
     }
 }

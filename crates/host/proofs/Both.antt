@@ -53,25 +53,10 @@ taken {S} bs room f s t key yes-room = go (reading 16 setting_of bs) refl room y
     go (Ok k) is false y h e = absurd (let z : ◌≡◌ {A = ℕ} 0 1 = ap (λ b. cond b 1 0) y in omega arith)
     go (Err x) is b y h e = absurd (let z : ◌≡◌ {A = ℕ} 0 1 = cc in omega arith)
 
-pub refused_there : {S : Type 0} (bs : List ℕ) (room : Bool) (f : State Setting → S) (e : Refusal) → room ≡ true → Err e ≡ answer (accepting room (reading 16 setting_of bs) f) → reading 16 setting_of bs ≡ Err e
-refused_there {S} bs room f e = go (reading 16 setting_of bs) room
-  where
-    go : (r : Result (Keyed (State Setting)) Refusal) (b : Bool) → b ≡ true → Err e ≡ answer (accepting b r f) → r ≡ Err e
-    go (Ok k) true y h = absurd (let z : ◌≡◌ {A = ℕ} 0 1 = cc in omega arith)
-    go (Ok k) false y h = absurd (let z : ◌≡◌ {A = ℕ} 0 1 = ap (λ b. cond b 1 0) y in omega arith)
-    go (Err x) b y h = let p : x ≡ e = cc in ap Err p
-
 pub kept_room : (rows : List Row) (cells : List Setting) → length rows ≡ 24 → length cells ≡ 96 → roomy rows cells ≡ true
 kept_room rows cells p q = and_from (leb 24 (length rows)) (leb 96 (length cells)) (le-leb 24 (length rows) (omega arith)) (le-leb 96 (length cells) (omega arith))
 
--- the answers where the first or the second frame is refused
-pub first_refused : (first second out : List ℕ) (e : Refusal) → reading 16 setting_of first ≡ Err e → merging_frames first second out ≡ refused e
-first_refused first second out e is = ap (λ r. first_read r (reading 16 setting_of second) out) is
-
-pub second_refused : (first second out : List ℕ) (a : Keyed (State Setting)) (e : Refusal) → reading 16 setting_of first ≡ Ok a → reading 16 setting_of second ≡ Err e → merging_frames first second out ≡ refused e
-second_refused first second out a e is no' = ap (λ r. first_read r (reading 16 setting_of second) out) is ∙ ap (λ r. second_read a r out) no'
-
-pub both_read : (first second out : List ℕ) (a b : Keyed (State Setting)) → reading 16 setting_of first ≡ Ok a → reading 16 setting_of second ≡ Ok b → merging_frames first second out ≡ joined a b out
+both_read : (first second out : List ℕ) (a b : Keyed (State Setting)) → reading 16 setting_of first ≡ Ok a → reading 16 setting_of second ≡ Ok b → merging_frames first second out ≡ joined a b out
 both_read first second out a b is was = ap (λ r. first_read r (reading 16 setting_of second) out) is ∙ ap (λ r. second_read a r out) was
 
 pub record Merged (first second out new : List ℕ) (r : Result ℕ Refusal) : Type 0 where

@@ -1,4 +1,4 @@
-// A refusal is told as 65,536 times its number plus its offset.
+// To C a refusal is told as a number: 65,536 times its own plus its offset.
 ghost use Rattle.std.specs.Prelude.{◌≡◌, ◌≤◌};
 ghost use Rattle.dvvset.specs.Clock.{after, answer};
 ghost use Rattle.formats.specs.Reading.{key_of, reading};

@@ -9,11 +9,6 @@ use frames::{check, load_frame, merge_frame, write_frame};
 use refusals::Refusal;
 use values::Setting;
 
-const BLANK: Setting = Setting {
-    measure: 0,
-    label: [0; 12],
-};
-
 // The first frame is checked, then the second, then that their keys are equal, and then the room in `out`.
 pub(crate) fn merge_frames(first: &[u8], second: &[u8], out: &mut [u8]) -> Result<usize, Refusal>
     ensures answer { result ≡ answer (merging_frames first.now second.now out.old) }
@@ -21,18 +16,12 @@ pub(crate) fn merge_frames(first: &[u8], second: &[u8], out: &mut [u8]) -> Resul
     ensures most { IfOk result (λ n. n ≤ 1756) }
     ensures near { IfErr result (λ e. offset e ≤ 1756) }
 {
-    let mut rows = [Row { top: 0, count: 0 }; 24];
-    let mut cells = [BLANK; 96];
-    match load_frame(first, &mut rows, &mut cells) {
-        Err(e) => Err(e),
-        Ok(key) => match merge_frame(second, &mut rows, &mut cells) {
-            Err(e) => Err(e),
-            Ok(other) => {
-                if key != other {
-                    return Err(Refusal::Mismatch);
-                }
-                write_frame(key, &rows, &cells, out)
-            }
-        },
+    let mut rows = [Row::default(); 24];
+    let mut cells = [Setting::default(); 96];
+    let key = load_frame(first, &mut rows, &mut cells)?;
+    let other = merge_frame(second, &mut rows, &mut cells)?;
+    if key != other {
+        return Err(Refusal::Mismatch);
     }
+    write_frame(key, &rows, &cells, out)
 }

@@ -1,7 +1,7 @@
 -- A walk over entries, step by step. Assumes nothing.
-use Rattle.std.proofs.Common.{◌≡◌, ℕ, ◌+◌, ◌≤◌, Bool, true, false, cond, eqb, leb, List, ◌∷◌, length, drop, Some, None, Ok, Err, Option, Result, sym, refl, ap, ◌∙◌, arith, Bor}
+use Rattle.std.proofs.Common.{◌≡◌, ℕ, ◌+◌, ◌≤◌, Bool, true, false, cond, eqb, leb, List, ◌∷◌, length, drop, Some, None, Ok, Err, Option, Result, sym, refl, ap, ◌∙◌, arith}
 use Rattle.std.proofs.lemmas.List.{drop-drop, length-append}
-use Rattle.std.proofs.lemmas.Bool.{le-leb}
+use Rattle.std.proofs.lemmas.Bool.{cond-false, cond-true, eq-eqb, le-leb, ne_eqb}
 use Rattle.std.specs.Option.{option_map, option_or}
 use Rattle.std.specs.List.{flat_map}
 use Rattle.refusals.specs.declared.Refusal.{Refusal}
@@ -11,22 +11,17 @@ use Rattle.formats.specs.Entries.{Entry, EntryTold, entry_field, next_entry, ope
 use Rattle.formats.proofs.Steps.{unless_goes}
 use Rattle.formats.proofs.Logs.{all_from, all_ended, all_refused, all-step, cut}
 use Rattle.media.specs.Runs.{last_where}
-use Rattle.cursor.specs.declared.fields.Field.{Field as FieldLoan}
-use Rattle.cursor.specs.declared.fields.Field.TheVariants.{Entry as EntryField}
-use Rattle.cursor.specs.Seen.{Shown, an_entry, entry_seen, shown, spanned_next}
+use Rattle.cursor.specs.Seen.{EntryShown, entry_seen}
+use Rattle.cursor.proofs.Founds.{shown_refused}
 use Rattle.journal.specs.Journals.{last_frame, walked}
 
 -- ---- what a step of the cursor tells
 
-abbrev show : ℕ → Result (Option EntryTold) Refusal → Result (Option Shown) Refusal
-show at r = then r (λ o. Ok (option_map (λ t. an_entry t.entry.key t.entry.frame at) o))
+-- an entry, or none, with the offset at which it begins
+abbrev show : ℕ → Option EntryTold → Option EntryShown
+show at o = option_map (λ t. record { key = t.entry.key; frame = t.entry.frame; at = at }) o
 
-refused : (at : ℕ) (r : Result (Option EntryTold) Refusal) (e : Refusal) → Err e ≡ show at r → r ≡ Err e
-refused at (Err x) e is = let same : e ≡ x = cc in ap Err (sym same)
-refused at (Ok None) e is = absurd (let z : ◌≡◌ {A = ℕ} 0 1 = cc in omega arith)
-refused at (Ok (Some t)) e is = absurd (let z : ◌≡◌ {A = ℕ} 0 1 = cc in omega arith)
-
-ended : (at : ℕ) (r : Result (Option EntryTold) Refusal) → Ok None ≡ show at r → r ≡ Ok None
+ended : (at : ℕ) (r : Result (Option EntryTold) Refusal) → Ok None ≡ then r (λ o. Ok (show at o)) → r ≡ Ok None
 ended at (Err x) is = absurd (let z : ◌≡◌ {A = ℕ} 0 1 = cc in omega arith)
 ended at (Ok None) is = refl
 ended at (Ok (Some t)) is = absurd (let z : ◌≡◌ {A = ℕ} 0 1 = cc in omega arith)
@@ -38,10 +33,10 @@ pub record Told (r : Result (Option EntryTold) Refusal) (key : ℕ) (frame : Lis
   pub key_is : told.entry.key ≡ key
   pub frame_is : told.entry.frame ≡ frame
 
-tells : (at : ℕ) (r : Result (Option EntryTold) Refusal) (key : ℕ) (frame : List ℕ) (a : ℕ) → Ok (Some (an_entry key frame a)) ≡ show at r → Told r key frame
-tells at (Err x) key frame a is = absurd (let z : ◌≡◌ {A = ℕ} 0 1 = cc in omega arith)
-tells at (Ok None) key frame a is = absurd (let z : ◌≡◌ {A = ℕ} 0 1 = cc in omega arith)
-tells at (Ok (Some t)) key frame a is = record { told = t; is = refl; key_is = cc; frame_is = cc }
+tells : (at : ℕ) (r : Result (Option EntryTold) Refusal) (s : EntryShown) → Ok (Some s) ≡ then r (λ o. Ok (show at o)) → Told r s.key s.frame
+tells at (Err x) s is = absurd (let z : ◌≡◌ {A = ℕ} 0 1 = cc in omega arith)
+tells at (Ok None) s is = absurd (let z : ◌≡◌ {A = ℕ} 0 1 = cc in omega arith)
+tells at (Ok (Some t)) s is = record { told = t; is = refl; key_is = cc; frame_is = cc }
 
 -- ---- a walk
 
@@ -66,16 +61,19 @@ Walking bs key p newest = walked key 0 None (all_from 0 bs) ≡ walked key p new
 
 module _ (bs : List ℕ) (key p : ℕ) (newest : Option (List ℕ)) (far : Walking bs key p newest) where
   pub walk_refused : (e : Refusal) → Err e ≡ entry_seen p (drop p bs) → walked key 0 None (all_from 0 bs) ≡ Err e
-  walk_refused e is = far ∙ ap (walked key p newest) (all_refused p (drop p bs) e (refused p (next_entry p (drop p bs)) e is))
+  walk_refused e is = far ∙ ap (walked key p newest) (all_refused p (drop p bs) e (shown_refused (show p) (next_entry p (drop p bs)) e is))
 
   pub walk_ended : Ok None ≡ entry_seen p (drop p bs) → walked key 0 None (all_from 0 bs) ≡ Ok (p, newest)
   walk_ended is =
       let n : p + 0 ≡ p = omega arith in
       far ∙ ap (walked key p newest) (all_ended p (drop p bs) (ended p (next_entry p (drop p bs)) is)) ∙ ap (λ m. Ok (m, newest)) n
 
-  pub walk_more : (k : ℕ) (frame : List ℕ) (a q : ℕ) → q ≡ p + (4 + length frame) → Ok (Some (an_entry k frame a)) ≡ entry_seen p (drop p bs) → Walking bs key q (cond (eqb key k) (Some frame) newest)
-  walk_more k frame a q to is =
-      let t = tells p (next_entry p (drop p bs)) k frame a is in
+  walk_more : (s : EntryShown) → Ok (Some s) ≡ entry_seen p (drop p bs) → Walking bs key (p + (4 + length s.frame)) (cond (eqb key s.key) (Some s.frame) newest)
+  walk_more s is =
+      let k = s.key in
+      let frame = s.frame in
+      let q : ℕ = p + (4 + length frame) in
+      let t = tells p (next_entry p (drop p bs)) s is in
       let e = t.told.entry in
       let c = cut p (drop p bs) t.told t.is in
       let len : length e.frame ≡ length frame = ap length t.frame_is in
@@ -91,13 +89,9 @@ module _ (bs : List ℕ) (key p : ℕ) (newest : Option (List ℕ)) (far : Walki
       ∙ ap (λ m. walked key q (cond (eqb key k) (Some frame) newest) (all_from m t.told.rest)) next
       ∙ ap (λ xs. walked key q (cond (eqb key k) (Some frame) newest) (all_from q xs)) rest
 
--- ---- what the cursor's step is, by the field that it hands out
+  -- an entry of the key is the newest, and another leaves it
+  pub walk_newer : (s : EntryShown) → Ok (Some s) ≡ entry_seen p (drop p bs) → s.key ≡ key → Walking bs key (p + (4 + length s.frame)) (Some s.frame)
+  walk_newer s is e = walk_more s is ∙ ap (λ n. walked key (p + (4 + length s.frame)) n (all_from (p + (4 + length s.frame)) (drop (p + (4 + length s.frame)) bs))) (cond-true (eqb key s.key) (Some s.frame) newest (eq-eqb key s.key (sym e)))
 
-module _ (bs cs : List ℕ) (p q : ℕ) (next : Option FieldLoan) (same : cs ≡ bs) (value : Ok (option_map shown next) ≡ entry_seen p (drop p cs)) (moved : q ≡ p + spanned_next (Ok (option_map shown next))) where
-  pub step_ended : next ≡ None → (Ok None ≡ entry_seen p (drop p bs)) × (q ≡ p)
-  step_ended is =
-      let to = moved ∙ ap (λ o. p + spanned_next (Ok (option_map shown o))) is in
-      (ap (λ o. Ok (option_map shown o)) (sym is) ∙ value ∙ ap (λ xs. entry_seen p (drop p xs)) same, omega arith)
-
-  pub step_more : (k : ℕ) (frame : Bor (List ℕ)) (a : ℕ) → next ≡ Some (EntryField k frame a) → (Ok (Some (an_entry k frame.now a)) ≡ entry_seen p (drop p bs)) × (q ≡ p + (4 + length frame.now))
-  step_more k frame a is = (ap (λ o. Ok (option_map shown o)) (sym is) ∙ value ∙ ap (λ xs. entry_seen p (drop p xs)) same, moved ∙ ap (λ o. p + spanned_next (Ok (option_map shown o))) is)
+  pub walk_other : (s : EntryShown) → Ok (Some s) ≡ entry_seen p (drop p bs) → (s.key ≡ key → ⊥) → Walking bs key (p + (4 + length s.frame)) newest
+  walk_other s is n = walk_more s is ∙ ap (λ n. walked key (p + (4 + length s.frame)) n (all_from (p + (4 + length s.frame)) (drop (p + (4 + length s.frame)) bs))) (cond-false (eqb key s.key) (Some s.frame) newest (ne_eqb key s.key (λ e. n (sym e))))

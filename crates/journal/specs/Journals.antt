@@ -23,6 +23,13 @@ abbrev pub left_of : ℕ → Result (List Entry) Refusal → ℕ
 left_of size (Ok es) = size - used es
 left_of size (Err e) = 0
 
+-- of a journal's bytes: the newest frame of each key, and what no entry uses
+abbrev pub frames_in : List ℕ → Frames
+frames_in bs = newest_of (opening bs)
+
+abbrev pub room_in : List ℕ → ℕ
+room_in bs = left_of (length bs) (opening bs)
+
 -- ---- a walk from the offset p on, with a frame of the key before it
 
 abbrev pub walked : ℕ → ℕ → Option (List ℕ) → Result (List Entry) Refusal → Result (ℕ × Option (List ℕ)) Refusal
@@ -50,5 +57,5 @@ after_saving (Err x) bs end e = bs
 
 abbrev pub saving : List ℕ → ℕ → List ℕ → List ℕ
 saving bs key frame =
-    let left = left_of (length bs) (opening bs) in
+    let left = room_in bs in
     after_saving (admitted key (length frame) left) bs (length bs - left) (record { key = key; frame = frame })

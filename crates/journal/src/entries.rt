@@ -1,11 +1,11 @@
-// The entries in a journal's bytes: a walk over them, and one more.
-ghost use Rattle.std.specs.Prelude.{◌≡◌, ◌≤◌, length, IfOk, if◌then◌else◌, Some, None, nat_eq};
+// The entries in a journal's bytes: a walk over them, and what it tells.
+ghost use Rattle.std.specs.Prelude.{◌≡◌, ◌≤◌, length, IfOk, None};
 ghost use Rattle.values.specs.BigEndian.{Bytes};
 ghost use Rattle.formats.specs.Entries.{opening};
 ghost use Rattle.media.specs.Media.{behind};
-ghost use Rattle.journal.specs.Journals.{left_of, newest_of, seen, walked};
+ghost use Rattle.journal.specs.Journals.{frames_in, room_in, seen, walked};
 
-use cursor::{Cursor, Field};
+use cursor::Cursor;
 use refusals::Refusal;
 
 // Where the entries end, and the frame of a key that came last.
@@ -13,13 +13,6 @@ use refusals::Refusal;
 pub(crate) struct Walk<'b> {
     pub(crate) end: usize,
     pub(crate) newest: Option<&'b [u8]>,
-}
-
-// The frame, where it is of the key, or else the one before.
-fn later<'b>(key: u8, of: u8, frame: &'b [u8], before: Option<&'b [u8]>) -> Option<&'b [u8]>
-    ensures { behind result ≡ (if nat_eq key of then Some frame.now else behind before.entry) }
-{
-    if key == of { Some(frame) } else { before }
 }
 
 pub(crate) fn survey<'b>(bytes: &'b [u8], key: u8) -> Result<Walk<'b>, Refusal>
@@ -31,32 +24,24 @@ pub(crate) fn survey<'b>(bytes: &'b [u8], key: u8) -> Result<Walk<'b>, Refusal>
     }
     let mut cursor = Cursor::new(bytes);
     let mut newest = None;
-    'entries: loop {
-        match cursor.entry() {
-            Err(why) => return Err(why),
-            Ok(next) => match next {
-                None => {
-                    return Ok(Walk {
-                        end: cursor.at,
-                        newest,
-                    });
-                }
-                Some(field) => {
-                    if let Field::Entry { key: of, frame, .. } = field {
-                        newest = later(key, of, frame, newest);
-                    }
-                }
-            },
+    while let Some(entry) = cursor.entry()? {
+        if entry.key == key {
+            newest = Some(entry.frame);
         }
     }
+    Ok(Walk {
+        end: cursor.at,
+        newest,
+    })
 }
 
 // What no entry uses.
 pub(crate) fn left_in(bytes: &[u8]) -> usize
-    ensures value { result ≡ left_of (length bytes.now) (opening bytes.now) }
+    ensures value { result ≡ room_in bytes.now }
     ensures within { result ≤ length bytes.now }
     ensures bytes { Bytes bytes.now }
 {
+    // of any key: the end alone is wanted
     match survey(bytes, 0) {
         Err(_) => 0,
         Ok(walk) => bytes.len() - walk.end,
@@ -65,10 +50,11 @@ pub(crate) fn left_in(bytes: &[u8]) -> usize
 
 // The newest frame of a key.
 pub(crate) fn newest_in<'b>(bytes: &'b [u8], key: u8) -> Option<&'b [u8]>
-    ensures { behind result ≡ newest_of (opening bytes.now) key }
+    ensures { behind result ≡ frames_in bytes.now key }
 {
     match survey(bytes, key) {
-        Err(_) => Some(&bytes[0..0]),
+        // no frame, which no save can leave and no reader accepts
+        Err(_) => Some(&[]),
         Ok(walk) => walk.newest,
     }
 }

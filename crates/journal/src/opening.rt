@@ -1,8 +1,7 @@
 // A journal from a lent buffer, and the buffer from a journal.
-ghost use Rattle.std.specs.Prelude.{◌≡◌, length, replicate, IfOk};
-ghost use Rattle.formats.specs.Entries.{opening};
+ghost use Rattle.std.specs.Prelude.{◌≡◌, IfOk};
 ghost use Rattle.media.specs.Media.{Fresh};
-ghost use Rattle.journal.specs.Journals.{left_of, newest_of};
+ghost use Rattle.journal.specs.Journals.{frames_in, room_in};
 ghost use Rattle.journal.specs.Buffers.{emptied, handed_back, opened};
 
 use crate::entries::survey;
@@ -13,24 +12,17 @@ use refusals::Refusal;
 pub fn open<'a>(bytes: &'a mut [u8]) -> Result<Journal<'a>, Unopened<'a>>
     ensures { handed_back result ≡ opened bytes.old }
 {
+    // of any key: whether the bytes open is all that is wanted
     match survey(bytes, 0) {
         Err(why) => Err(Unopened { why, bytes }),
         Ok(_) => Ok(Journal { bytes }),
     }
 }
 
-fn zero(bytes: &mut [u8])
-    ensures { bytes.new ≡ replicate (length bytes.old) 0 }
-{
-    'bytes: for i in 0..bytes.len() {
-        bytes[i] = 0;
-    }
-}
-
 // A journal of no entries, whatever the bytes held.
 pub fn fresh<'a>(bytes: &'a mut [u8]) -> Result<Journal<'a>, Unopened<'a>>
     ensures value { handed_back result ≡ emptied bytes.old }
-    ensures fresh { IfOk result (λ j. Fresh (newest_of (opening j.bytes.now)) (left_of (length j.bytes.now) (opening j.bytes.now))) }
+    ensures fresh { IfOk result (λ j. Fresh (frames_in j.bytes.now) (room_in j.bytes.now)) }
 {
     if bytes.len() < 1760 || bytes.len() > 65_536 {
         return Err(Unopened {
@@ -38,7 +30,7 @@ pub fn fresh<'a>(bytes: &'a mut [u8]) -> Result<Journal<'a>, Unopened<'a>>
             bytes,
         });
     }
-    zero(bytes);
+    bytes.fill(0);
     Ok(Journal { bytes })
 }
 

@@ -3,22 +3,23 @@ ghost use Rattle.std.specs.Prelude.{◌≡◌, true, length, drop, is_ok, is_err
 ghost use Rattle.formats.specs.Entries.{opening};
 ghost use Rattle.media.specs.Runs.{Ran, enough, tried_all};
 ghost use Rattle.refusals.specs.declared.Refusal.TheVariants.{ShortMemory};
-ghost use Rattle.journal.specs.Journals.{left_of, newest_of};
+ghost use Rattle.journal.specs.Journals.{frames_in, room_in};
 ghost use Rattle.journal.specs.Buffers.{handed_back};
 
 use crate::journals::{Journal, Unopened};
 use crate::opening::open;
-use media::{Answer, Order, save_all};
+use media::{Order, save_all};
+use refusals::Refusal;
 
 // After any list of saves the bytes open again, with the frames and left that the saves made.
 pub fn save_and_reopen<'a>(
     journal: Journal<'a>,
     frames: &[u8],
     orders: &[Order],
-    answers: &mut [Answer],
+    answers: &mut [Result<usize, Refusal>],
 ) -> Result<Journal<'a>, Unopened<'a>>
     ensures opens { is_ok (enough (length orders.now) (length answers.old)) ≡ true → is_ok (opening journal.entry.bytes.now) ≡ true → is_ok result ≡ true }
-    ensures same { IfOk result (λ j. Ran (newest_of (opening journal.entry.bytes.now)) (left_of (length journal.entry.bytes.now) (opening journal.entry.bytes.now)) (tried_all frames.now orders.now answers.new) (newest_of (opening j.bytes.now)) (left_of (length j.bytes.now) (opening j.bytes.now))) }
+    ensures same { IfOk result (λ j. Ran (frames_in journal.entry.bytes.now) (room_in journal.entry.bytes.now) (tried_all frames.now orders.now answers.new) (frames_in j.bytes.now) (room_in j.bytes.now)) }
     ensures beyond { drop (length orders.now) answers.new ≡ drop (length orders.now) answers.old }
     ensures refused { is_err (enough (length orders.now) (length answers.old)) ≡ true → (handed_back result ≡ Err (ShortMemory, journal.entry.bytes.now)) × (answers.new ≡ answers.old) }
 {

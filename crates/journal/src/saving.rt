@@ -1,8 +1,7 @@
 // The journal as a medium.
-ghost use Rattle.std.specs.Prelude.{◌≡◌, length};
-ghost use Rattle.formats.specs.Entries.{opening};
+ghost use Rattle.std.specs.Prelude.{◌≡◌};
 ghost use Rattle.media.specs.Media.{Saved};
-ghost use Rattle.journal.specs.Journals.{left_of, newest_of, saving};
+ghost use Rattle.journal.specs.Journals.{frames_in, room_in, saving};
 
 use crate::appending::append;
 use crate::entries::{left_in, newest_in};
@@ -12,24 +11,21 @@ use refusals::Refusal;
 
 // Appends an entry behind the last one, if it is admitted.
 fn save_in(bytes: &mut [u8], key: u8, frame: &[u8]) -> Result<(), Refusal>
-    ensures saved { Saved (newest_of (opening bytes.old)) (left_of (length bytes.old) (opening bytes.old)) key frame.now result (newest_of (opening bytes.new)) (left_of (length bytes.new) (opening bytes.new)) }
+    ensures saved { Saved (frames_in bytes.old) (room_in bytes.old) key frame.now result (frames_in bytes.new) (room_in bytes.new) }
     ensures bytes { bytes.new ≡ saving bytes.old key frame.now }
 {
     let left = left_in(bytes);
-    match admit(key, frame.len(), left) {
-        Err(why) => Err(why),
-        Ok(()) => {
-            let end = bytes.len() - left;
-            append(key, frame, &mut bytes[end..]);
-            Ok(())
-        }
-    }
+    admit(key, frame.len(), left)?;
+    let end = bytes.len() - left;
+    append(key, frame, &mut bytes[end..]);
+    Ok(())
 }
 
+// `holds` and `read` as for slots, but by the entries: no default body in the trait, since not every medium can lend its newest frame.
 impl<'a> Medium for Journal<'a> {
-    ghost newest = { λ j. newest_of (opening j.bytes.now) };
+    ghost newest = { λ j. frames_in j.bytes.now };
 
-    ghost left = { λ j. left_of (length j.bytes.now) (opening j.bytes.now) };
+    ghost left = { λ j. room_in j.bytes.now };
 
     fn left(&self) -> usize {
         left_in(self.bytes)
@@ -40,7 +36,7 @@ impl<'a> Medium for Journal<'a> {
     }
 
     fn save(&mut self, key: u8, frame: &[u8]) -> Result<(), Refusal>
-        ensures saved { Saved (newest_of (opening self.old.bytes.now)) (left_of (length self.old.bytes.now) (opening self.old.bytes.now)) key frame.now result (newest_of (opening self.new.bytes.now)) (left_of (length self.new.bytes.now) (opening self.new.bytes.now)) }
+        ensures saved { Saved (frames_in self.old.bytes.now) (room_in self.old.bytes.now) key frame.now result (frames_in self.new.bytes.now) (room_in self.new.bytes.now) }
         ensures bytes { self.new.bytes.now ≡ saving self.old.bytes.now key frame.now }
     {
         save_in(self.bytes, key, frame)

@@ -1,42 +1,24 @@
 -- One save more. Assumes nothing.
-use Rattle.std.proofs.Common.{◌≡◌, ℕ, ◌+◌, ◌-◌, ◌<◌, ◌≤◌, min, Bool, true, false, cond, ◌&&◌, eqb, List, [], ◌∷◌, ◌++◌, length, get_or, take, drop, set, Some, None, Option, sym, refl, ap, ◌∙◌, subst, ⊎_elim, arith}
-use Rattle.std.proofs.lemmas.List.{drop_all, length-drop, take_all, length-take-le, take_more, take_more_set}
-use Rattle.std.proofs.lemmas.Bool.{and_parts, cases_lt, false≢true}
+use Rattle.std.proofs.Common.{◌≡◌, ℕ, ◌+◌, ◌-◌, ◌<◌, ◌≤◌, Bool, true, false, cond, ◌&&◌, eqb, List, [], ◌∷◌, ◌++◌, length, get_or, take, set, Some, None, Ok, Err, Option, Result, is_ok, sym, refl, ap, ◌∙◌, subst, arith}
+use Rattle.std.proofs.lemmas.List.{take_all, length-take-le, take_more, take_more_set}
+use Rattle.std.proofs.lemmas.Bool.{and_parts, false≢true}
 use Rattle.std.specs.List.{AllByRecursion}
 use Rattle.std.specs.Option.{option_map, option_or}
 use Rattle.media.specs.declared.orders.Order.{Order}
-use Rattle.media.specs.declared.orders.Answer.{Answer}
-use Rattle.media.specs.declared.orders.Answer.TheVariants.{Accepted, Refused}
+use Rattle.refusals.specs.declared.Refusal.{Refusal}
 use Rattle.media.specs.Media.{Frames, admitted}
-use Rattle.media.specs.Runs.{Tried, tried, tried_all, took, all_took, is_accepted, reply, last_where, last_accepted, Answered, AllAnswered, Ran, Done}
+use Rattle.media.specs.Runs.{Tried, tried, tried_all, took, all_took, reply, last_where, last_accepted, Answered, AllAnswered, Ran, Done}
 use Rattle.media.proofs.Frames.{bounds}
-
--- ---- a part that stops at the end
-
-pub clipped : (bs : List ℕ) (start n first last : ℕ) → first ≡ min start (length bs) → last ≡ min n (length bs - first) → take (first + last - first) (drop first bs) ≡ take n (drop start bs)
-clipped bs start n first last f l =
-    let e : first + last - first ≡ last = omega arith in
-    ap (λ m. take m (drop first bs)) e ∙ ⊎_elim inside outside (cases_lt (length bs) start)
-  where
-    long : (xs : List ℕ) → last ≡ min n (length xs) → take last xs ≡ take n xs
-    long xs l =
-        ⊎_elim (λ h. (let e : last ≡ n = omega arith in ap (λ m. take m xs) e)) (λ h. take_all last xs (omega arith) ∙ sym (take_all n xs (omega arith))) (cases_lt n (length xs))
-
-    outside : start ≤ length bs → take last (drop first bs) ≡ take n (drop start bs)
-    outside h = let e : first ≡ start = omega arith in long (drop first bs) (omega (arith, length-drop first bs)) ∙ ap (λ m. take n (drop m bs)) e
-
-    inside : length bs < start → take last (drop first bs) ≡ take n (drop start bs)
-    inside h = let p = drop_all first bs (omega arith) in let q = drop_all start bs (omega arith) in long (drop first bs) (omega (arith, length-drop first bs)) ∙ ap (take n) (p ∙ sym q)
 
 -- ---- what was tried, and one more
 
-tried-push : (frames : List ℕ) (os : List Order) (answers : List Answer) (o : Order) (a : Answer) → length os ≡ length answers → tried_all frames (os ++ o ∷ []) (answers ++ a ∷ []) ≡ tried_all frames os answers ++ tried frames o a ∷ []
+tried-push : (frames : List ℕ) (os : List Order) (answers : List (Result ℕ Refusal)) (o : Order) (a : Result ℕ Refusal) → length os ≡ length answers → tried_all frames (os ++ o ∷ []) (answers ++ a ∷ []) ≡ tried_all frames os answers ++ tried frames o a ∷ []
 tried-push frames [] [] o a e = refl
 tried-push frames [] (b ∷ answers) o a e = absurd (omega arith)
 tried-push frames (p ∷ os) [] o a e = absurd (omega arith)
 tried-push frames (p ∷ os) (b ∷ answers) o a e = ap (λ ts. tried frames p b ∷ ts) (tried-push frames os answers o a (omega arith))
 
-pub tried_more : (frames : List ℕ) (os : List Order) (answers : List Answer) (i : ℕ) (o : Order) (a : Answer) → i < length os → i < length answers → tried_all frames (take (i + 1) os) (take (i + 1) (set answers i a)) ≡ tried_all frames (take i os) (take i answers) ++ tried frames (get_or os i o) a ∷ []
+pub tried_more : (frames : List ℕ) (os : List Order) (answers : List (Result ℕ Refusal)) (i : ℕ) (o : Order) (a : Result ℕ Refusal) → i < length os → i < length answers → tried_all frames (take (i + 1) os) (take (i + 1) (set answers i a)) ≡ tried_all frames (take i os) (take i answers) ++ tried frames (get_or os i o) a ∷ []
 tried_more frames os answers i o a h k =
     let p = take_more os i o h in
     let q = take_more_set answers i a k in
@@ -44,12 +26,12 @@ tried_more frames os answers i o a h k =
     let m = length-take-le i answers (omega arith) in
     ap (λ xs. tried_all frames xs (take (i + 1) (set answers i a))) p ∙ ap (tried_all frames (take i os ++ get_or os i o ∷ [])) q ∙ tried-push frames (take i os) (take i answers) (get_or os i o) a (l ∙ sym m)
 
-cut : (frames : List ℕ) (os : List Order) (answers : List Answer) → tried_all frames os (take (length os) answers) ≡ tried_all frames os answers
+cut : (frames : List ℕ) (os : List Order) (answers : List (Result ℕ Refusal)) → tried_all frames os (take (length os) answers) ≡ tried_all frames os answers
 cut frames [] answers = refl
 cut frames (o ∷ os) [] = refl
 cut frames (o ∷ os) (a ∷ answers) = ap (λ ts. tried frames o a ∷ ts) (cut frames os answers)
 
-pub tried_end : (frames : List ℕ) (os : List Order) (answers : List Answer) (i : ℕ) → i ≡ length os → tried_all frames (take i os) (take i answers) ≡ tried_all frames os answers
+pub tried_end : (frames : List ℕ) (os : List Order) (answers : List (Result ℕ Refusal)) (i : ℕ) → i ≡ length os → tried_all frames (take i os) (take i answers) ≡ tried_all frames os answers
 tried_end frames os answers i e = ap (λ xs. tried_all frames xs (take i answers)) (take_all i os (omega arith)) ∙ ap (λ m. tried_all frames os (take m answers)) e ∙ cut frames os answers
 
 answered_push : (left : ℕ) (ts : List Tried) (t : Tried) (here : ℕ) → left - all_took ts ≡ here → AllAnswered left ts → Answered here t → AllAnswered left (ts ++ t ∷ [])
@@ -74,7 +56,7 @@ one_last f false x last before = refl
 
 -- of this key, and accepted
 abbrev counts : ℕ → Tried → Bool
-counts k t = eqb k t.key && is_accepted t.answer
+counts k t = eqb k t.key && is_ok t.answer
 
 pub ran_none : (newest : Frames) (left : ℕ) → Ran newest left [] newest left
 ran_none newest left = record { answered = tt; frames = λ k. refl; falls = omega arith }
@@ -102,16 +84,16 @@ last_found {A} test Q (y ∷ ys) g x e = go (last_where test ys) refl (test y) r
     go None is true t e more = let same : y ≡ x = cc in subst Q same (g.0 t)
     go None is false t e more = absurd (let z : ◌≡◌ {A = ℕ} 0 1 = cc in omega arith)
 
-accepted_some : (left : ℕ) (t : Tried) → Answered left t → is_accepted t.answer ≡ true → 4 ≤ length t.frame
+accepted_some : (left : ℕ) (t : Tried) → Answered left t → is_ok t.answer ≡ true → 4 ≤ length t.frame
 accepted_some left t a was = go t.answer was a.0
   where
-    go : (x : Answer) → is_accepted x ≡ true → reply x ≡ admitted t.key (length t.frame) left → 4 ≤ length t.frame
-    go (Accepted n) y e = (bounds t.key (length t.frame) left e).some
-    go (Refused r) y e = absurd (false≢true y)
+    go : (x : Result ℕ Refusal) → is_ok x ≡ true → reply x ≡ admitted t.key (length t.frame) left → 4 ≤ length t.frame
+    go (Ok n) y e = (bounds t.key (length t.frame) left e).some
+    go (Err r) y e = absurd (false≢true y)
 
 all_some : (k left : ℕ) (ts : List Tried) → AllAnswered left ts → AllByRecursion (λ t. counts k t ≡ true → 4 ≤ length t.frame) ts
 all_some k left [] a = tt
-all_some k left (t ∷ ts) a = (λ c. accepted_some left t a.0 (and_parts (eqb k t.key) (is_accepted t.answer) c).1, all_some k (left - took t.answer) ts a.1)
+all_some k left (t ∷ ts) a = (λ c. accepted_some left t a.0 (and_parts (eqb k t.key) (is_ok t.answer) c).1, all_some k (left - took t.answer) ts a.1)
 
 pub mapped-found : {A B : Type 0} (f : A → B) (Q : B → Type 0) (o : Option A) → ((x : A) → o ≡ Some x → Q (f x)) → (y : B) → option_map f o ≡ Some y → Q y
 mapped-found f Q None h y e = absurd (let z : ◌≡◌ {A = ℕ} 0 1 = cc in omega arith)

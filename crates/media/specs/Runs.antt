@@ -1,25 +1,23 @@
 -- Many saves on one medium. Assumes nothing.
-use Rattle.std.specs.Prelude.{◌≡◌, ℕ, ◌+◌, ◌-◌, Bool, true, false, cond, ◌&&◌, List, [], ◌∷◌, length, take, drop, Some, None, Ok, Err, Option, Result, ◌==◌, nat_lt}
+use Rattle.std.specs.Prelude.{◌≡◌, ℕ, ◌+◌, ◌-◌, Bool, cond, ◌&&◌, List, [], ◌∷◌, length, take, drop, Some, None, Ok, Err, Option, Result, ◌==◌, is_ok, nat_lt}
 use Rattle.std.specs.Option.{option_map, option_or}
 use Rattle.refusals.specs.declared.Refusal.{Refusal}
 use Rattle.refusals.specs.declared.Refusal.TheVariants.{ShortMemory}
 use Rattle.media.specs.declared.orders.Order.{Order}
-use Rattle.media.specs.declared.orders.Answer.{Answer}
-use Rattle.media.specs.declared.orders.Answer.TheVariants.{Accepted, Refused}
 use Rattle.media.specs.Media.{Frames, Takes, admitted}
 
 -- ---- what was tried
 
--- a save, and what came of it
+-- a save, and what came of it: what an accepted one took from left
 pub record Tried : Type 0 where
   pub key : ℕ
   pub frame : List ℕ
-  pub answer : Answer
+  pub answer : Result ℕ Refusal
 
-abbrev pub tried : List ℕ → Order → Answer → Tried
+abbrev pub tried : List ℕ → Order → Result ℕ Refusal → Tried
 tried frames o a = record { key = o.key; frame = take o.length (drop o.start frames); answer = a }
 
-abbrev pub tried_all : List ℕ → List Order → List Answer → List Tried
+abbrev pub tried_all : List ℕ → List Order → List (Result ℕ Refusal) → List Tried
 tried_all frames [] answers = []
 tried_all frames (o ∷ os) [] = []
 tried_all frames (o ∷ os) (a ∷ answers) = tried frames o a ∷ tried_all frames os answers
@@ -30,17 +28,13 @@ enough orders answers = cond (nat_lt answers orders) (Err ShortMemory) (Ok tt)
 
 -- ---- what came of it
 
-abbrev pub reply : Answer → Result (Unit {0}) Refusal
-reply (Accepted n) = Ok tt
-reply (Refused e) = Err e
+abbrev pub reply : Result ℕ Refusal → Result (Unit {0}) Refusal
+reply (Ok n) = Ok tt
+reply (Err e) = Err e
 
-abbrev pub is_accepted : Answer → Bool
-is_accepted (Accepted n) = true
-is_accepted (Refused e) = false
-
-abbrev pub took : Answer → ℕ
-took (Accepted n) = n
-took (Refused e) = 0
+abbrev pub took : Result ℕ Refusal → ℕ
+took (Ok n) = n
+took (Err e) = 0
 
 abbrev pub all_took : List Tried → ℕ
 all_took [] = 0
@@ -55,7 +49,7 @@ last_where test (a ∷ rest) = option_or (last_where test rest) (cond (test a) (
 
 -- the frame of a key's last accepted save
 abbrev pub last_accepted : ℕ → List Tried → Option (List ℕ)
-last_accepted k ts = option_map (λ t. t.frame) (last_where (λ t. (k == t.key) && is_accepted t.answer) ts)
+last_accepted k ts = option_map (λ t. t.frame) (last_where (λ t. (k == t.key) && is_ok t.answer) ts)
 
 -- one save is answered by what is left
 abbrev pub Answered : ℕ → Tried → Type 0

@@ -12,7 +12,7 @@ mod thrift;
 
 pub use admission::admit;
 pub use medium::Medium;
-pub use orders::{Answer, Order};
+pub use orders::Order;
 pub use reading::{hand_over, is_newest};
 pub use runs::save_all;
 pub use slot::Slots;

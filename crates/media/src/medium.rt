@@ -1,9 +1,10 @@
 // What every medium does.
-ghost use Rattle.std.specs.Prelude.{◌≡◌, ℕ, List, length, Some, Decides, Option};
+ghost use Rattle.std.specs.Prelude.{◌≡◌, ℕ, List, length, Some, IsTrue, ◌↔◌, Option};
 ghost use Rattle.media.specs.Media.{Saved, handed, laid, told};
 
 use refusals::Refusal;
 
+// A frame and its key come as two, since most callers have them so.
 pub trait Medium {
     // The newest frame of each key, or none.
     ghost newest: { Self → ℕ → Option (List ℕ) };
@@ -16,7 +17,7 @@ pub trait Medium {
 
     // Whether the frame is the newest of its key.
     fn holds(&self, key: u8, frame: &[u8]) -> bool
-        ensures { Decides result (newest self.now key ≡ Some frame.now) };
+        ensures { IsTrue result ↔ (newest self.now key ≡ Some frame.now) };
 
     // Makes the frame the newest of its key.
     fn save(&mut self, key: u8, frame: &[u8]) -> Result<(), Refusal>

@@ -1,11 +1,11 @@
 // The medium of plain slots: a save goes over the frame before it, and takes nothing from left.
-ghost use Rattle.std.specs.Prelude.{◌≡◌, ◌≤◌, length, Some, None};
+ghost use Rattle.std.specs.Prelude.{◌≡◌, ◌≤◌, length};
 ghost use Rattle.media.specs.Media.{Fresh, behind};
-ghost use Rattle.media.specs.Slots.{frame_of, frames_of, slots_left};
+ghost use Rattle.media.specs.Slots.{frame_in, frames_of, slots_left};
 
 use crate::admission::admit;
 use crate::medium::Medium;
-use crate::reading::{hand_over, is_newest, lay};
+use crate::reading::{hand_over, is_newest};
 use crate::slot::{Slot, Slots};
 use refusals::Refusal;
 
@@ -13,36 +13,23 @@ use refusals::Refusal;
 const ROOM: usize = 1760;
 
 impl Slot {
-    fn empty() -> Slot
-        ensures { frame_of result ≡ None }
-    {
-        Slot {
-            size: 0,
-            bytes: [0; 1756],
-        }
-    }
-
-    // With a frame in it.
+    // With a frame in it. No conversion by `From`, since a longer frame does not fit.
     fn of(frame: &[u8]) -> Slot
-        requires some { 4 ≤ length frame.now }
-        requires few { length frame.now ≤ 1756 }
-        ensures { frame_of result ≡ Some frame.now }
+        requires { length frame.now ≤ 1756 }
+        ensures { frame_in result ≡ frame.now }
     {
         let mut bytes = [0; 1756];
-        lay(frame, &mut bytes);
+        bytes[..frame.len()].copy_from_slice(frame);
         Slot {
             size: frame.len(),
             bytes,
         }
     }
 
-    fn frame(&self) -> Option<&[u8]>
-        ensures { behind result ≡ frame_of self.now }
+    fn frame(&self) -> &[u8]
+        ensures { result.now ≡ frame_in self.now }
     {
-        if self.size == 0 {
-            return None;
-        }
-        Some(&self.bytes[0..self.size])
+        &self.bytes[..self.size]
     }
 }
 
@@ -51,19 +38,15 @@ impl Slots {
     pub fn new() -> Slots
         ensures { Fresh (frames_of result.slots) slots_left }
     {
-        Slots {
-            slots: [Slot::empty(); 16],
-        }
+        Slots { slots: [None; 16] }
     }
 
     // The newest frame of a key.
     fn newest(&self, key: u8) -> Option<&[u8]>
         ensures { behind result ≡ frames_of self.now.slots key }
     {
-        if key > 15 {
-            return None;
-        }
-        self.slots[key as usize].frame()
+        let slot = self.slots.get(usize::from(key))?.as_ref()?;
+        Some(slot.frame())
     }
 }
 
@@ -82,7 +65,7 @@ impl Medium for Slots {
 
     fn save(&mut self, key: u8, frame: &[u8]) -> Result<(), Refusal> {
         admit(key, frame.len(), ROOM)?;
-        self.slots[key as usize] = Slot::of(frame);
+        self.slots[usize::from(key)] = Some(Slot::of(frame));
         Ok(())
     }
 

@@ -1,5 +1,5 @@
 // A layer that spares the medium below what it holds already.
-ghost use Rattle.std.specs.Prelude.{◌≡◌, ℕ, Some};
+ghost use Rattle.std.specs.Prelude.{◌≡◌, Some};
 ghost use Rattle.media.specs.Media.{Saved};
 
 use crate::admission::admit;

@@ -4,7 +4,7 @@
 #[cfg(test)]
 mod tests {
     use journal::{fresh, open, save_and_reopen};
-    use media::{Answer, Medium, Order, Slots, Thrift, save_all};
+    use media::{Medium, Order, Slots, Thrift};
     use refusals::Refusal;
     use std::test::Fail;
 
@@ -76,11 +76,12 @@ mod tests {
     }
 
     // What opening answers, or none where it is accepted.
+    // No `err` and `map`: an error that holds a `&mut` cannot be passed to a closure.
     fn refusal_of(bytes: &mut [u8]) -> Option<Refusal> {
-        match open(bytes) {
-            Ok(_) => None,
-            Err(unopened) => Some(unopened.why),
-        }
+        let Err(unopened) = open(bytes) else {
+            return None;
+        };
+        Some(unopened.why)
     }
 
     #[test]
@@ -133,18 +134,11 @@ mod tests {
                 length: 4,
             },
         ];
-        let mut answers = [Answer::Accepted(0); 3];
+        let mut answers = [Ok(0); 3];
         let Ok(again) = save_and_reopen(journal, &frames, &orders, &mut answers) else {
             return Err(Fail::new("it opens again"));
         };
-        assert_eq!(rt;
-            answers,
-            [
-                Answer::Accepted(8),
-                Answer::Refused(Refusal::WrongLength(0)),
-                Answer::Accepted(8),
-            ]
-        );
+        assert_eq!(rt; answers, [Ok(8), Err(Refusal::WrongLength(0)), Ok(8)]);
         assert_eq!(rt; again.left(), 1744);
         assert!(rt; again.holds(3, &[2, 3, 4, 5]));
         Ok(())

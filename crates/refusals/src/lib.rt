@@ -34,7 +34,7 @@ pub enum Refusal {
 }
 
 impl Refusal {
-    // The number that stands for the kind, 1 to 12.
+    // The number that stands for the kind, 1 to 12. A method, since `u8::from(refusal)` would not say which number.
     pub fn number(self) -> u8
         ensures { result ≡ number self }
     {
@@ -54,16 +54,16 @@ impl Refusal {
         }
     }
 
-    // Where the refused field begins, 0 for the kinds that name no field.
+    // Where the refused field begins, 0 for the kinds that name no field. No Option: a refusal is told as a number and an offset, also to C.
     pub fn offset(self) -> usize
         ensures { result ≡ offset self }
     {
         match self {
-            Refusal::Truncated(at) => at,
-            Refusal::UnexpectedTag(at) => at,
-            Refusal::WrongLength(at) => at,
-            Refusal::OutOfRange(at) => at,
-            Refusal::OutOfOrder(at) => at,
+            Refusal::Truncated(at)
+            | Refusal::UnexpectedTag(at)
+            | Refusal::WrongLength(at)
+            | Refusal::OutOfRange(at)
+            | Refusal::OutOfOrder(at) => at,
             _ => 0,
         }
     }

@@ -1,3 +1,11 @@
-pub mod Printing
+pub mod Padded
+pub mod Fronts
 pub mod Listed
-pub mod Told
+pub mod Sent
+pub mod Held
+pub mod Contexts
+pub mod Giving
+pub mod Accepted
+pub mod Cut
+pub mod Numbers
+pub mod Taken

@@ -1,14 +1,11 @@
 -- A key has never more siblings than cells, so a list of all its cells always holds them. Assumes nothing.
-use Rattle.std.proofs.Common.{◌≡◌, ℕ, suc, ◌+◌, ◌-◌, ◌*◌, ◌<◌, ◌≤◌, true, ◌&&◌, leb, List, [], ◌∷◌, ◌++◌, length, get_or, drop, refl, ap, arith}
+use Rattle.std.proofs.Common.{◌≡◌, ℕ, suc, ◌+◌, ◌-◌, ◌*◌, ◌<◌, ◌≤◌, List, [], ◌∷◌, length, get_or, drop, refl, ap, arith}
 use Rattle.std.specs.List.{AllByRecursion}
 use Rattle.std.proofs.ByRecursion.{All-from_get_or}
 use Rattle.std.proofs.lemmas.List.{length-append, length-take}
-use Rattle.std.proofs.lemmas.Bool.{and_from, cond-true, le-leb}
-use Rattle.dvvset.specs.Clock.{ColumnState, State, accepted, no_writes}
+use Rattle.dvvset.specs.Clock.{ColumnState, State, no_writes}
 use Rattle.dvvset.specs.Listing.{dotted, siblings, siblings_from}
-use Rattle.dvvset.specs.declared.writes.Sibling.{Sibling}
-use Rattle.clock.specs.Memory.{count_of, no_row, roomy, state}
-use Rattle.clock.specs.Calls.{listing}
+use Rattle.clock.specs.Memory.{count_of, no_row, state}
 use Rattle.clock.specs.declared.rows.Row.{Row}
 use Rattle.clock.proofs.Whole.{few, get_or-state, length-state}
 
@@ -32,11 +29,6 @@ module _ {V : Type 0} where
         let r = get_or rows c no_row in
         rw (get_or-state rows cells c no_writes (omega (arith, length-state rows cells))) (omega (arith, few r, length-take (count_of r) (drop (4 * c) cells)))
 
-    siblings_few : length (siblings (state rows cells)) ≤ 96
+    pub siblings_few : length (siblings (state rows cells)) ≤ 96
     unfolding siblings
     siblings_few = omega (arith, few_from 0 (state rows cells) (All-from_get_or Few (state rows cells) no_writes few_each), length-state rows cells)
-
-    pub listing_is : (out : List (Sibling V)) → length rows ≡ 24 → length cells ≡ 96 → length out ≡ 96 → listing rows cells out ≡ accepted (length (siblings (state rows cells))) (siblings (state rows cells) ++ drop (length (siblings (state rows cells))) out)
-    listing_is out r c o =
-        let t : (roomy rows cells && leb (length (siblings (state rows cells))) (length out)) ≡ true = and_from _ _ (and_from _ _ (le-leb 24 (length rows) (omega arith)) (le-leb 96 (length cells) (omega arith))) (le-leb _ _ (omega (arith, siblings_few))) in
-        cond-true (roomy rows cells && leb (length (siblings (state rows cells))) (length out)) _ _ t

@@ -3,4 +3,5 @@ pub mod Places
 pub mod Gifts
 pub mod Keys
 pub mod Saves
+pub mod Parsing
 pub mod Sessions

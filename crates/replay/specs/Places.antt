@@ -1,9 +1,9 @@
--- Where the state of a seat and key stands, and the column that the seat owns. Assumes nothing.
-use Rattle.std.specs.Prelude.{ℕ, ◌+◌, ◌*◌, Bool, cond, ◌&&◌, Ok, Err, Result, nat_le}
+-- Where the state of a seat and key stands. Assumes nothing.
+use Rattle.std.specs.Prelude.{◌≡◌, ℕ, ◌+◌, ◌*◌, Bool, true, false, ◌&&◌, Result, MatchResult, nat_le}
 use Rattle.refusals.specs.declared.Refusal.{Refusal}
 use Rattle.refusals.specs.declared.Refusal.TheVariants.{NoSuchSeatOrKey}
-use Rattle.clock.specs.declared.indices.ColumnIndex.{ColumnIndex}
 use Rattle.replay.specs.declared.calls.Spot.{Spot}
+use Rattle.replay.specs.declared.places.SeatKey.{SeatKey}
 
 abbrev pub there : Spot → Bool
 there at = nat_le at.seat 5 && nat_le at.key 15
@@ -12,13 +12,6 @@ there at = nat_le at.seat 5 && nat_le at.key 15
 abbrev pub place_of : Spot → ℕ
 place_of at = 16 * at.seat + at.key
 
-abbrev pub placed : Spot → Result ℕ Refusal
-placed at = cond (there at) (Ok (place_of at)) (Err NoSuchSeatOrKey)
-
--- the column of a seat in life 0
-abbrev pub column_of : ℕ → Result ℕ Refusal
-column_of seat = cond (nat_le seat 5) (Ok (4 * seat)) (Err NoSuchSeatOrKey)
-
-abbrev pub indexed : Result ColumnIndex Refusal → Result ℕ Refusal
-indexed (Ok c) = Ok c.index
-indexed (Err e) = Err e
+-- the same seat and key, where they are there
+abbrev pub Placed : Spot → Result SeatKey Refusal → Type 0
+Placed at r = MatchResult r (λ p. (there at ≡ true) × (p.seat ≡ at.seat) × (p.key ≡ at.key)) (λ e. (there at ≡ false) × (e ≡ NoSuchSeatOrKey))

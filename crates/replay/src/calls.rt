@@ -10,65 +10,55 @@ pub struct Spot {
     pub key: u64,
 }
 
-// `with` is the number of the get whose context is used.
+// What is to be done there. `with` is the number of the get whose context is used.
 #[derive(Clone, Copy)]
-pub enum Call {
-    Put {
-        at: Spot,
-        value: Setting,
-        with: Option<u64>,
-    },
-    Delete {
-        at: Spot,
-        with: Option<u64>,
-    },
-    Get {
-        at: Spot,
-    },
-    Send {
-        at: Spot,
-    },
-    Save {
-        at: Spot,
-    },
-    // `frame` is the number of the send that gave it
-    Deliver {
-        at: Spot,
-        frame: u64,
-    },
+pub enum Action {
+    Put { value: Setting, with: Option<u64> },
+    Delete { with: Option<u64> },
+    Get,
+    Send,
+    Save,
+    // `call` is the number of the send that gave the frame
+    Deliver { call: u64 },
 }
 
-fn show_with<W: fmt::Write>(with: Option<u64>, f: &mut fmt::Formatter<W>) -> fmt::Result {
-    match with {
-        Some(call) => write!(f, " with {call}"),
-        None => Ok(()),
-    }
+#[derive(Clone, Copy)]
+pub struct Call {
+    pub at: Spot,
+    pub action: Action,
 }
+
+// How a line names a get, if it does.
+#[derive(Clone, Copy)]
+struct With(Option<u64>);
 
 impl fmt::Display for Spot {
     fn fmt<W: fmt::Write>(&self, f: &mut fmt::Formatter<W>) -> fmt::Result {
-        let seat = self.seat;
-        let key = self.key;
-        write!(f, "{seat} {key}")
+        write!(f, "{} {}", self.seat, self.key)
+    }
+}
+
+impl fmt::Display for With {
+    fn fmt<W: fmt::Write>(&self, f: &mut fmt::Formatter<W>) -> fmt::Result {
+        match self.0 {
+            Some(call) => write!(f, " with {call}"),
+            None => Ok(()),
+        }
     }
 }
 
 impl fmt::Display for Call {
     fn fmt<W: fmt::Write>(&self, f: &mut fmt::Formatter<W>) -> fmt::Result {
-        match *self {
-            Call::Put { at, value, with } => {
-                let value = Labelled(value);
-                write!(f, "put {at} {value}")?;
-                show_with(with, f)
+        let Call { at, action } = *self;
+        match action {
+            Action::Put { value, with } => {
+                write!(f, "put {at} {}{}", Labelled(value), With(with))
             }
-            Call::Delete { at, with } => {
-                write!(f, "delete {at}")?;
-                show_with(with, f)
-            }
-            Call::Get { at } => write!(f, "get {at}"),
-            Call::Send { at } => write!(f, "send {at}"),
-            Call::Save { at } => write!(f, "save {at}"),
-            Call::Deliver { at, frame } => write!(f, "deliver {at} {frame}"),
+            Action::Delete { with } => write!(f, "delete {at}{}", With(with)),
+            Action::Get => write!(f, "get {at}"),
+            Action::Send => write!(f, "send {at}"),
+            Action::Save => write!(f, "save {at}"),
+            Action::Deliver { call } => write!(f, "deliver {at} {call}"),
         }
     }
 }

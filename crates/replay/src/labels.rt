@@ -1,6 +1,8 @@
 // Labels: up to twelve printable characters, with zero bytes after them.
 ghost use Rattle.std.specs.Prelude.{◌≡◌};
-ghost use Rattle.replay.specs.Labels.{all_printable, label_of};
+ghost use Rattle.std.specs.Char.{is_ascii_graphic};
+ghost use Rattle.std.specs.List.{list_all};
+ghost use Rattle.replay.specs.Labels.{label_of};
 
 use std::fmt;
 use values::Setting;
@@ -9,15 +11,10 @@ use values::Setting;
 #[derive(Clone, Copy)]
 pub struct Labelled(pub Setting);
 
-fn printable(word: &[u8]) -> bool
-    ensures { result ≡ all_printable word.now }
+fn is_printable(word: &[u8]) -> bool
+    ensures { result ≡ list_all is_ascii_graphic word.now }
 {
-    for b in word {
-        if !b.is_ascii_graphic() {
-            return false;
-        }
-    }
-    true
+    word.iter().all(|b| b.is_ascii_graphic())
 }
 
 // The bytes with zeros after them; none where they are no label.
@@ -25,18 +22,17 @@ pub fn padded(word: &[u8]) -> Option<[u8; 12]>
     ensures { result ≡ label_of word.now }
 {
     let n = word.len();
-    if n < 1 || n > 12 || !printable(word) {
+    if n < 1 || n > 12 || !is_printable(word) {
         return None;
     }
     let mut label = [0; 12];
-    (&mut label[0..n]).copy_from_slice(word);
+    label[..n].copy_from_slice(word);
     Some(label)
 }
 
 impl fmt::Display for Labelled {
     fn fmt<W: fmt::Write>(&self, f: &mut fmt::Formatter<W>) -> fmt::Result {
-        let measure = self.0.measure;
-        write!(f, "{measure} ")?;
+        write!(f, "{} ", self.0.measure)?;
         for b in &self.0.label {
             if *b != 0 {
                 f.write_char(char::from(*b))?;

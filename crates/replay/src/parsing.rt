@@ -1,14 +1,14 @@
 // Reads a line as a call.
-ghost use Rattle.std.specs.Prelude.{◌≡◌};
-ghost use Rattle.std.specs.Int.{w32};
-ghost use Rattle.std.specs.Str.Parse.{ParsesSigned, ParsesUnsigned};
+ghost use Rattle.std.specs.Prelude.{◌≡◌, [], ◌∷◌, MatchOption, MatchResult, Result};
+ghost use Rattle.std.specs.Option.{ok_or};
 ghost use Rattle.std.specs.Result.{result_ok};
 ghost use Rattle.replay.specs.Labels.{label_of};
+ghost use Rattle.replay.specs.Parsing.{call_of, said, words};
 
 use crate::bad_lines::{BadLine, Part};
-use crate::calls::{Call, Spot};
+use crate::calls::{Action, Call, Spot};
 use crate::labels::padded;
-use std::str::SplitAsciiWhitespace;
+use std::str::{FromStr, SplitAsciiWhitespace};
 use values::Setting;
 
 // The words of a line that are not read yet.
@@ -17,133 +17,149 @@ struct Words<'a> {
     rest: SplitAsciiWhitespace<'a>,
 }
 
-// Digits, maybe with a `+` in front, whose number fits.
-fn number(part: Part, word: &str) -> Result<u64, BadLine<'_>>
-    ensures { ParsesUnsigned 64 10 word.now result }
+// What a word stands for, if it can be read as that.
+fn read<T: FromStr>(part: Part, word: &str) -> Result<T, BadLine<'_>>
+where
+    T::Err: Drop,
+    ensures { (r : Result T T.Err) × T.from_str_gives word.entry.now r × (result ≡ ok_or (result_ok r) (BadLine.Malformed part word.entry)) }
 {
-    match word.parse::<u64>() {
-        Ok(n) => Ok(n),
-        Err(_) => Err(BadLine::Malformed(part, word)),
-    }
-}
-
-// Digits, maybe with a sign in front, whose number fits.
-fn measure(word: &str) -> Result<i32, BadLine<'_>>
-    ensures { ParsesSigned w32 10 word.now result }
-{
-    match word.parse::<i32>() {
-        Ok(n) => Ok(n),
-        Err(_) => Err(BadLine::Malformed(Part::Measure, word)),
-    }
-}
-
-fn label(word: &str) -> Result<[u8; 12], BadLine<'_>>
-    ensures { result_ok result ≡ label_of word.now }
-{
-    match padded(word.as_bytes()) {
-        Some(label) => Ok(label),
-        None => Err(BadLine::Malformed(Part::Label, word)),
-    }
+    word.parse().ok().ok_or(BadLine::Malformed(part, word))
 }
 
 impl<'a> Words<'a> {
-    fn word(&mut self, part: Part) -> Result<&'a str, BadLine<'a>> {
-        match self.rest.next() {
-            Some(word) => Ok(word),
-            None => Err(BadLine::Missing(part)),
-        }
+    ghost use Rattle.replay.specs.Parsing.{delete, deliver, ended, left, measure_of, named, number_of, plain, put, reading, setting, spot, told};
+
+    fn next(&mut self) -> Option<&'a str>
+        ensures { MatchOption result ((left self.old ≡ []) × (left self.new ≡ [])) (λ w. left self.old ≡ w.now ∷ left self.new) }
+    {
+        self.rest.next()
     }
 
-    fn number(&mut self, part: Part) -> Result<u64, BadLine<'a>> {
+    fn word(&mut self, part: Part) -> Result<&'a str, BadLine<'a>>
+        ensures { MatchResult result (λ w. left self.old ≡ w.now ∷ left self.new) (λ e. (left self.old ≡ []) × (left self.new ≡ []) × (e ≡ BadLine.Missing part)) }
+    {
+        self.next().ok_or(BadLine::Missing(part))
+    }
+
+    // Numbers and measures are read by `read`; each has a clause of its own, in numbers and in signed ones.
+    fn number(&mut self, part: Part) -> Result<u64, BadLine<'a>>
+        ensures { told result (left self.new) ≡ reading part number_of (left self.old) }
+    {
         let word = self.word(part)?;
-        number(part, word)
+        read(part, word)
     }
 
-    fn spot(&mut self) -> Result<Spot, BadLine<'a>> {
+    fn measure(&mut self) -> Result<i32, BadLine<'a>>
+        ensures { told result (left self.new) ≡ reading Part.Measure measure_of (left self.old) }
+    {
+        let word = self.word(Part::Measure)?;
+        read(Part::Measure, word)
+    }
+
+    fn label(&mut self) -> Result<[u8; 12], BadLine<'a>>
+        ensures { told result (left self.new) ≡ reading Part.Label label_of (left self.old) }
+    {
+        let word = self.word(Part::Label)?;
+        padded(word.as_bytes()).ok_or(BadLine::Malformed(Part::Label, word))
+    }
+
+    // Each part of a call has a reader of a few lines. Some are alike in shape and read other words; none is a special case of another.
+    fn spot(&mut self) -> Result<Spot, BadLine<'a>>
+        ensures { told result (left self.new) ≡ spot (left self.old) }
+    {
         let seat = self.number(Part::Seat)?;
         let key = self.number(Part::Key)?;
         Ok(Spot { seat, key })
     }
 
-    fn setting(&mut self) -> Result<Setting, BadLine<'a>> {
-        let measure = measure(self.word(Part::Measure)?)?;
-        let label = label(self.word(Part::Label)?)?;
+    fn setting(&mut self) -> Result<Setting, BadLine<'a>>
+        ensures { told result (left self.new) ≡ setting (left self.old) }
+    {
+        let measure = self.measure()?;
+        let label = self.label()?;
         Ok(Setting { measure, label })
     }
 
-    // The end of the line, or `with` and a number before it.
-    fn with(&mut self) -> Result<Option<u64>, BadLine<'a>> {
-        match self.rest.next() {
+    // The number behind `with`, or none at the end of the line.
+    fn with(&mut self) -> Result<Option<u64>, BadLine<'a>>
+        ensures { told result (left self.new) ≡ named (left self.old) }
+    {
+        match self.next() {
             None => Ok(None),
-            Some("with") => {
-                let call = self.number(Part::CallNumber)?;
-                self.end()?;
-                Ok(Some(call))
-            }
+            Some("with") => Ok(Some(self.number(Part::CallNumber)?)),
             Some(word) => Err(BadLine::Superfluous(word)),
         }
     }
 
-    fn end(&mut self) -> Result<(), BadLine<'a>> {
-        match self.rest.next() {
+    fn end(&mut self) -> Result<(), BadLine<'a>>
+        ensures { told result (left self.new) ≡ ended (left self.old) }
+    {
+        match self.next() {
             None => Ok(()),
             Some(word) => Err(BadLine::Superfluous(word)),
         }
     }
 
-    fn put(&mut self) -> Result<Call, BadLine<'a>> {
+    fn put(&mut self) -> Result<Call, BadLine<'a>>
+        ensures { told result (left self.new) ≡ put (left self.old) }
+    {
         let at = self.spot()?;
         let value = self.setting()?;
         let with = self.with()?;
-        Ok(Call::Put { at, value, with })
+        Ok(Call {
+            at,
+            action: Action::Put { value, with },
+        })
     }
 
-    fn delete(&mut self) -> Result<Call, BadLine<'a>> {
+    fn delete(&mut self) -> Result<Call, BadLine<'a>>
+        ensures { told result (left self.new) ≡ delete (left self.old) }
+    {
         let at = self.spot()?;
         let with = self.with()?;
-        Ok(Call::Delete { at, with })
+        Ok(Call {
+            at,
+            action: Action::Delete { with },
+        })
     }
 
-    fn get(&mut self) -> Result<Call, BadLine<'a>> {
+    fn deliver(&mut self) -> Result<Call, BadLine<'a>>
+        ensures { told result (left self.new) ≡ deliver (left self.old) }
+    {
         let at = self.spot()?;
-        self.end()?;
-        Ok(Call::Get { at })
+        let call = self.number(Part::CallNumber)?;
+        Ok(Call {
+            at,
+            action: Action::Deliver { call },
+        })
     }
 
-    fn send(&mut self) -> Result<Call, BadLine<'a>> {
+    // A call that needs no more than a seat and a key.
+    fn plain(&mut self, action: Action) -> Result<Call, BadLine<'a>>
+        ensures { told result (left self.new) ≡ plain action (left self.old) }
+    {
         let at = self.spot()?;
-        self.end()?;
-        Ok(Call::Send { at })
-    }
-
-    fn save(&mut self) -> Result<Call, BadLine<'a>> {
-        let at = self.spot()?;
-        self.end()?;
-        Ok(Call::Save { at })
-    }
-
-    fn deliver(&mut self) -> Result<Call, BadLine<'a>> {
-        let at = self.spot()?;
-        let frame = self.number(Part::CallNumber)?;
-        self.end()?;
-        Ok(Call::Deliver { at, frame })
+        Ok(Call { at, action })
     }
 }
 
 // The call of a line, or none where it is blank.
-pub fn parse(line: &str) -> Result<Option<Call>, BadLine<'_>> {
+pub fn parse(line: &str) -> Result<Option<Call>, BadLine<'_>>
+    ensures { said result ≡ call_of (words line.entry.now) }
+{
     let mut words = Words {
         rest: line.split_ascii_whitespace(),
     };
-    let call = match words.rest.next() {
+    let call = match words.next() {
         None => return Ok(None),
         Some("put") => words.put()?,
         Some("delete") => words.delete()?,
-        Some("get") => words.get()?,
-        Some("send") => words.send()?,
-        Some("save") => words.save()?,
+        Some("get") => words.plain(Action::Get)?,
+        Some("send") => words.plain(Action::Send)?,
+        Some("save") => words.plain(Action::Save)?,
         Some("deliver") => words.deliver()?,
         Some(word) => return Err(BadLine::NoSuchCall(word)),
     };
+    words.end()?;
     Ok(Some(call))
 }

@@ -1,40 +1,36 @@
 // Plays the lines of a scenario, and prints what each comes to.
-use crate::answers::Outcome;
-use crate::calls::Call;
+ghost use Rattle.std.specs.Prelude.{OnOk};
+ghost use Rattle.replay.specs.Parsing.{line_call};
+ghost use Rattle.replay.specs.Sessions.{PlaysLine};
+
+use crate::errors::NotMade;
 use crate::parsing::parse;
 use crate::session::Session;
 use std::io;
 use std::io::{BufRead, BufReader};
 
-fn print_outcome(rt: &impl Print, line: u64, call: &Call, outcome: &Outcome) -> io::Result<()> {
-    match outcome {
-        Outcome::Answered(number, answer) => println!(rt; "{number} {call}: {answer}"),
-        Outcome::NoSuchGet { call, key } => {
-            println!(rt; "line {line}: call {call} is no earlier get of key {key}")
-        }
-        Outcome::NoSuchSend { call, key } => {
-            println!(rt; "line {line}: call {call} is no earlier send of key {key}")
-        }
-    }
-}
-
-fn play_line(rt: &impl Print, session: &mut Session, number: u64, line: &str) -> io::Result<()> {
+fn play_line(rt: &impl Print, session: &mut Session, number: u64, line: &str) -> io::Result<()>
+    ensures { OnOk result (PlaysLine (line_call line.now) session.old session.new) }
+{
     if line.starts_with('#') {
         return println!(rt; "{line}");
     }
-    match parse(line) {
-        Ok(None) => Ok(()),
-        Ok(Some(call)) => {
-            let outcome = session.make(&call)?;
-            print_outcome(rt, number, &call, &outcome)
-        }
-        Err(bad) => println!(rt; "line {number}: {bad}"),
+    let call = match parse(line) {
+        Ok(None) => return Ok(()),
+        Ok(Some(call)) => call,
+        Err(bad) => return println!(rt; "line {number}: {bad}"),
+    };
+    match session.make(&call) {
+        Ok(made) => println!(rt; "{} {call}: {made}", made.number),
+        Err(NotMade::OutOfMemory(error)) => Err(error.into()),
+        Err(why) => println!(rt; "line {number}: {why}"),
     }
 }
 
 // All lines of standard input.
 pub fn play(rt: &HostRuntime) -> io::Result<()> {
     let mut session = Session::new(rt.alloc())?;
+    // counted beside the lines, and no `enumerate`: the last number may not pass the type's end
     let mut number: u64 = 0;
     for line in BufReader::new(rt.alloc(), rt.stdin())?.lines(rt.alloc()) {
         number = number.saturating_add(1);

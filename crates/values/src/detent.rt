@@ -8,7 +8,7 @@ ghost use Rattle.std.proofs.Common.{rules};
 use crate::measured::Measured;
 use crate::value::Value;
 
-#[derive(Clone, Copy, PartialEq, Eq, Debug)]
+#[derive(Clone, Copy, PartialEq, Eq, Debug, Default)]
 pub struct Detent {
     // step (2): signed, the highest byte first
     pub step: i16,
@@ -40,8 +40,7 @@ impl Value for Detent {
     }
 
     fn write_to(&self, out: &mut [u8]) {
-        let step = self.step.to_be_bytes();
-        (&mut out[0..2]).copy_from_slice(&step);
+        out[0..2].copy_from_slice(&self.step.to_be_bytes());
     }
 
     fn read_from(src: &[u8]) -> Detent {
@@ -56,6 +55,6 @@ impl Measured for Detent {
     ghost measure = { λ d. d.step };
 
     fn measure(&self) -> i32 {
-        self.step as i32
+        i32::from(self.step)
     }
 }

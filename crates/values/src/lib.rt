@@ -10,5 +10,5 @@ mod value;
 pub use detent::Detent;
 pub use measured::{Measured, lower};
 pub use place::Place;
-pub use setting::Setting;
+pub use setting::{Setting, are_equal};
 pub use value::{Value, read_value, write_value};

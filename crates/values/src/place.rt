@@ -5,7 +5,7 @@ ghost use Rattle.std.proofs.Common.{rules};
 
 use crate::value::Value;
 
-#[derive(Clone, Copy, PartialEq, Eq, Debug)]
+#[derive(Clone, Copy, PartialEq, Eq, Debug, Default)]
 pub struct Place {
     // offset (4): the highest byte first
     pub offset: u32,
@@ -39,10 +39,9 @@ impl Value for Place {
     }
 
     fn write_to(&self, out: &mut [u8]) {
-        let offset = self.offset.to_be_bytes();
-        let length = self.length.to_be_bytes();
-        (&mut out[0..4]).copy_from_slice(&offset);
-        (&mut out[4..8]).copy_from_slice(&length);
+        let Place { offset, length } = *self;
+        out[0..4].copy_from_slice(&offset.to_be_bytes());
+        out[4..8].copy_from_slice(&length.to_be_bytes());
     }
 
     fn read_from(src: &[u8]) -> Place {

@@ -1,17 +1,14 @@
 // A setting: a measure with a label.
-ghost use Rattle.std.specs.Prelude.{◌≡◌, ◌↔◌, ◌==◌, IsTrue};
-ghost use Rattle.std.specs.Cmp.Lexicographic.{pointwise};
+ghost use Rattle.std.specs.Prelude.{◌≡◌, ◌↔◌, IsTrue};
 ghost use Rattle.values.specs.Layouts.{SettingFits, setting_bytes, setting_of};
-ghost use Rattle.std.specs.Cmp.Rules.{comparing};
-ghost use Rattle.std.specs.Ordering.{eq_of_both, flip_args, int_eq, on};
+ghost use Rattle.values.specs.LayoutsLemmas.{setting_back, setting_fits, setting_forth};
 ghost use Rattle.std.proofs.Common.{rules};
-ghost use Rattle.std.specs.Cmp as Keys;
-ghost use Rattle.values.specs.LayoutsLemmas.{setting_back, setting_forth, setting_fits};
 
 use crate::measured::Measured;
 use crate::value::Value;
 
-#[derive(Clone, Copy, Debug)]
+// Equal settings are the same: see `are_equal`.
+#[derive(Clone, Copy, PartialEq, Eq, Debug, Default)]
 pub struct Setting {
     // measure (4): signed, the highest byte first
     pub measure: i32,
@@ -19,22 +16,11 @@ pub struct Setting {
     pub label: [u8; 12],
 }
 
-// The measures and the labels are the same.
-impl PartialEq for Setting {
-    ghost eq = { flip_args (eq_of_both (on (λ s. s.measure) int_eq) (on (λ s. s.label) (pointwise (λ x y. x == y)))) };
-
-    fn eq(&self, other: &Setting) -> bool
-        ensures computed { result ≡ flip_args (eq_of_both (on (λ s. s.measure) int_eq) (on (λ s. s.label) (pointwise (λ x y. x == y)))) self.now other.now }
-        ensures same { IsTrue result ↔ (self.now ≡ other.now) }
-    {
-        other.measure == self.measure && other.label == self.label
-    }
-
-    ghost laws = { Keys.partial_equiv_from_equiv (Prim.search (comparing, rules)) };
-}
-
-impl Eq for Setting {
-    ghost laws = { Prim.search (comparing, rules) };
+// What equality of settings means.
+pub fn are_equal(a: &Setting, b: &Setting) -> bool
+    ensures { IsTrue result ↔ (a.now ≡ b.now) }
+{
+    a == b
 }
 
 impl Value for Setting {
@@ -63,15 +49,13 @@ impl Value for Setting {
     }
 
     fn write_to(&self, out: &mut [u8]) {
-        let measure = self.measure.to_be_bytes();
-        let label: &[u8] = &self.label;
-        (&mut out[0..4]).copy_from_slice(&measure);
-        (&mut out[4..16]).copy_from_slice(label);
+        out[0..4].copy_from_slice(&self.measure.to_be_bytes());
+        out[4..16].copy_from_slice(&self.label);
     }
 
     fn read_from(src: &[u8]) -> Setting {
-        let mut label = [0u8; 12];
-        (&mut label[0..12]).copy_from_slice(&src[4..16]);
+        let mut label = [0; 12];
+        label.copy_from_slice(&src[4..16]);
         Setting {
             measure: i32::from_be_bytes([src[0], src[1], src[2], src[3]]),
             label,

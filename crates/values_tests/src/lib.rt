@@ -1,8 +1,8 @@
 // Known bytes of the three values, the order of measures around zero, and a round trip for every value.
 #![tactic(auto)]
 
-ghost use Rattle.values.specs.Memory.{in_memory, overwritten};
 ghost use Rattle.std.specs.Prelude.{◌≡◌};
+ghost use Rattle.values.specs.Memory.{in_memory, overwritten};
 
 use refusals::Refusal;
 use values::{Value, read_value, write_value};
@@ -12,26 +12,23 @@ pub fn there_and_back<V: Value>(v: &V, memory: &mut [u8]) -> Result<V, Refusal>
     ensures answer { result ≡ in_memory V.Value.width memory.old v.now }
     ensures memory { memory.new ≡ overwritten V.Value.width (V.Value.bytes_of v.now) memory.old }
 {
-    match write_value(v, memory) {
-        Ok(()) => read_value(memory),
-        Err(refusal) => Err(refusal),
-    }
+    write_value(v, memory)?;
+    read_value(memory)
 }
 
 #[cfg(test)]
 mod tests {
     use super::there_and_back;
     use refusals::Refusal;
-    use values::{Detent, Place, Setting, Value, lower, write_value};
+    use values::{Detent, Place, Setting, Value, are_equal, lower, write_value};
 
-    const MEASURES: [i32; 5] = [-2147483648, -1, 0, 1, 2147483647];
-
-    const MEASURE_BYTES: [[u8; 4]; 5] = [
-        [0x80, 0x00, 0x00, 0x00],
-        [0xFF, 0xFF, 0xFF, 0xFF],
-        [0x00, 0x00, 0x00, 0x00],
-        [0x00, 0x00, 0x00, 0x01],
-        [0x7F, 0xFF, 0xFF, 0xFF],
+    // measures by rising order, each with its bytes
+    const MEASURES: [(i32, [u8; 4]); 5] = [
+        (-2147483648, [0x80, 0x00, 0x00, 0x00]),
+        (-1, [0xFF, 0xFF, 0xFF, 0xFF]),
+        (0, [0x00, 0x00, 0x00, 0x00]),
+        (1, [0x00, 0x00, 0x00, 0x01]),
+        (2147483647, [0x7F, 0xFF, 0xFF, 0xFF]),
     ];
 
     // the label, and two bytes that no setting writes
@@ -46,33 +43,43 @@ mod tests {
 
     #[test]
     fn settings(rt: HostRuntime) {
-        for i in 0..5 {
+        for (i, &(measure, bytes)) in MEASURES.iter().enumerate() {
             let mut out = [0xEEu8; 18];
-            assert_eq!(rt;
-                there_and_back(&setting(MEASURES[i]), &mut out),
-                Ok(setting(MEASURES[i]))
-            );
-            assert!(rt; out[0..4] == MEASURE_BYTES[i][0..4]);
+            let written = setting(measure);
+            assert_eq!(rt; there_and_back(&written, &mut out), Ok(written));
+            assert!(rt; out[0..4] == bytes[0..4]);
             assert!(rt; out[4..18] == LABEL_AND_REST[0..14]);
-            for j in 0..5 {
-                assert_eq!(rt; lower(&setting(MEASURES[i]), &setting(MEASURES[j])), i < j);
+            for (j, &(other, _)) in MEASURES.iter().enumerate() {
+                assert_eq!(rt; lower(&written, &setting(other)), i < j);
+                assert_eq!(rt; are_equal(&written, &setting(other)), i == j);
             }
         }
     }
 
-    const STEPS: [i16; 4] = [-32768, -1, 0, 32767];
+    #[test]
+    fn labels_are_compared(rt: HostRuntime) {
+        let mut other = setting(1);
+        other.label[11] = b'S';
+        assert!(rt; !are_equal(&setting(1), &other));
+    }
 
-    const STEP_BYTES: [[u8; 2]; 4] = [[0x80, 0x00], [0xFF, 0xFF], [0x00, 0x00], [0x7F, 0xFF]];
+    // steps by rising order, each with its bytes
+    const STEPS: [(i16, [u8; 2]); 4] = [
+        (-32768, [0x80, 0x00]),
+        (-1, [0xFF, 0xFF]),
+        (0, [0x00, 0x00]),
+        (32767, [0x7F, 0xFF]),
+    ];
 
     #[test]
     fn detents(rt: HostRuntime) {
-        for i in 0..4 {
+        for (i, &(step, bytes)) in STEPS.iter().enumerate() {
             let mut out = [0xEEu8; 2];
-            let detent = Detent { step: STEPS[i] };
+            let detent = Detent { step };
             assert_eq!(rt; there_and_back(&detent, &mut out), Ok(detent));
-            assert_eq!(rt; out, STEP_BYTES[i]);
-            for j in 0..4 {
-                assert_eq!(rt; lower(&detent, &Detent { step: STEPS[j] }), i < j);
+            assert_eq!(rt; out, bytes);
+            for (j, &(other, _)) in STEPS.iter().enumerate() {
+                assert_eq!(rt; lower(&detent, &Detent { step: other }), i < j);
             }
         }
     }

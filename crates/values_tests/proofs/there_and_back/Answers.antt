@@ -15,11 +15,11 @@ module _ {V : Type 0} (width : ℕ) (memory after bs : List ℕ) (value_of : Lis
       cc
   come_back false ok stored long back read = let never : ◌≡◌ {A = ℕ} 0 1 = cc in absurd (omega arith)
 
-pub returns-in-Ok : goal.returns-in-Ok
-returns-in-Ok g c =
+pub returns : goal.returns
+returns g c =
     let v = c.args.v.now in
     let memory = c.args.memory.now in
-    let wrote = c.in-Ok.ensures in
+    let wrote = c.in_ok-write_value.ensures in
     let bs = g.V.Value.bytes_of v in
     let long = g.met.V.Value.fills v wrote.valid in
     let back = g.met.V.Value.back v wrote.valid in

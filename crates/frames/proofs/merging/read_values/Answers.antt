@@ -1,37 +1,34 @@
-use Rattle.std.proofs.Common.{◌≡◌, ℕ, ◌+◌, ◌-◌, ◌*◌, ◌≤◌, take, drop, refl, ap, ◌∙◌, arith, rules}
-use lib.Seq.{paste}
-use Rattle.std.proofs.lemmas.List.{take-take}
-use Rattle.formats.specs.Reading.{values_of}
-use Rattle.frames.proofs.ValuesRead.{read_more, read_all, row_fits}
+use Rattle.std.proofs.Common.{◌≡◌, ◌∙◌, ap, arith}
+use Rattle.std.proofs.lemmas.List.{take_all}
+use Rattle.frames.proofs.ValuesRead.{starts, at_the_end, next}
 use Rattle.frames.proofs.merging.read_values.Goals as goal
 
--- the next value lies within the bytes: w is the width
-within : (w k i n l : ℕ) → w ≡ k → i + 1 ≤ n → l ≡ k * n → w * i + w ≤ l
-within w k i n l e h is = omega (arith, row_fits k i n (omega arith), ap (λ m. m * i) e)
+pub loop-i-init : goal.loop-i-init
+loop-i-init g c =
+    let s = starts g.V.Value.width g.V.Value.value_of c.args.cells.now c.args.field.now.count c.args.field.now.values.now c.requires.values in
+    let from = c.into_iter-i-iterator.ensures.into_iter_gives in
+    let source = ap (λ e. e.iter) from ∙ c.enumerate-i-items.ensures.source in
+    let rest = ap (λ s. s.rest.now) source ∙ c.chunks_exact.ensures.rest in
+    let none = ap (λ e. e.count) from ∙ c.enumerate-i-items.ensures.count in
+    (ap (λ s. s.size) source ∙ c.chunks_exact.ensures.size ∙ c.width.ensures, rw (rest, none) s)
 
-pub overflow_mul-at : goal.overflow_mul-at
-overflow_mul-at g c = let r = within _ _ c.loop-i.i c.args.count _ c.width-w.ensures (omega arith) c.requires.values in search rules
-
-pub overflow_add-at : goal.overflow_add-at
-overflow_add-at g c = let r = within _ _ c.loop-i.i c.args.count _ c.width-w.ensures (omega arith) c.requires.values in search rules
-
-pub slice_bounds-read_from-end : goal.slice_bounds-read_from-end
-slice_bounds-read_from-end g c = omega (arith, within _ _ c.loop-i.i c.args.count _ c.width-w.ensures (omega arith) c.requires.values)
+pub bounds-cells-i : goal.bounds-cells-i
+bounds-cells-i g c =
+    let w = g.V.Value.width in
+    let s = c.in-Some.ensures.steps in
+    let n = next w g.V.Value.value_of c.args.cells.now c.args.field.now.count c.args.field.now.values.now _ _ _ c.loop-i.invariant.1 c.requires.cells g.met.V.Value.small.0 c.in-Some.bytes.now c.next.new.self.iter.rest.now s.0.1.0 (s.0.1.1 ∙ c.loop-i.invariant.0) in
+    omega (arith, n.0)
 
 pub loop-i-preserved : goal.loop-i-preserved
 loop-i-preserved g c =
-    let v = g.V.Value in
-    let i = c.loop-i.i in
-    let w = c.width-w.result in
-    let bs = c.args.values.now in
-    let k : ℕ = (w * i + w) - w * i in
-    let e : k ≡ v.width = omega (arith, c.width-w.ensures) in
-    let at = ap (λ m. m * i) c.width-w.ensures in
-    let x = c.read_from.ensures.value ∙ ap v.value_of (take-take v.width k (drop (w * i) bs) (omega arith)) ∙ ap (λ m. v.value_of (take v.width (drop m bs))) at in
-    read_more v.width v.value_of c.args.cells.now c.loop-i.cells c.args.count i v.width bs c.read_from.result c.loop-i.invariant (omega arith) c.requires.cells refl x
+    let w = g.V.Value.width in
+    let s = c.in-Some.ensures.steps in
+    let fill : _ ≡ w = s.0.1.1 ∙ c.loop-i.invariant.0 in
+    let n = next w g.V.Value.value_of c.args.cells.now c.args.field.now.count c.args.field.now.values.now _ _ _ c.loop-i.invariant.1 c.requires.cells g.met.V.Value.small.0 c.in-Some.bytes.now c.next.new.self.iter.rest.now s.0.1.0 fill in
+    let x = c.read_from.ensures.value ∙ ap g.V.Value.value_of (take_all w c.in-Some.bytes.now (omega arith)) in
+    (s.0.0 ∙ c.loop-i.invariant.0, rw (s.1, s.2, x) n.1)
 
 pub returns : goal.returns
 returns g c =
-    let v = g.V.Value in
-    let n : c.loop-i.i ≡ c.args.count = omega arith in
-    read_all v.width v.value_of c.args.cells.now c.loop-i.cells c.args.count c.args.values.now (c.loop-i.invariant ∙ ap (λ m. paste c.args.cells.now 0 (values_of v.width v.value_of c.args.count c.args.values.now) m) n)
+    let s = c.in-None.ensures.steps in
+    at_the_end g.V.Value.width g.V.Value.value_of c.args.cells.now c.args.field.now.count c.args.field.now.values.now _ _ _ c.loop-i.invariant.1 c.requires.cells g.met.V.Value.small.0 (let short = s.0.1.0 in let size = c.loop-i.invariant.0 in omega arith)

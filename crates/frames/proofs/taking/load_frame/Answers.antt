@@ -1,16 +1,18 @@
-use Rattle.std.proofs.Common.{sym, ap, ◌∙◌}
+use Rattle.std.proofs.Common.{drop, ◌∙◌}
+use Rattle.std.proofs.lemmas.List.{drop_at, length-take-le}
 use Rattle.values.specs.BigEndianLemmas.{bytes_typed}
-use Rattle.dvvset.specs.Clock.{merge}
-use Rattle.frames.specs.Taking.{state_read}
-use Rattle.formats.specs.Reading.{reading}
-use Rattle.frames.proofs.Loads.{loaded}
+use Rattle.frames.proofs.Loads.{loaded, state_cleared}
 use Rattle.frames.proofs.taking.load_frame.Goals as goal
 
-pub returns-else-not-has_room : goal.returns-else-not-has_room
-returns-else-not-has_room g c =
+pub returns : goal.returns
+returns g c =
     let met = g.met.V.Value in
     let bs = c.args.frame.now in
-    let T = state_read (reading g.V.Value.width g.V.Value.value_of bs) in
+    let rest = drop 24 c.args.rows.now in
+    let key = c.in_ok-key.ensures in
+    let wide = length-take-le 24 c.args.rows.now key.room.0 in
+    let cleared = state_cleared c.default.result _ c.fill.new.self rest c.args.cells.now c.default.ensures wide (c.fill.ensures.after (λ y e. e)) in
+    let means = rw cleared at c.merge_fields.ensures.state in
+    let beyond = c.merge_fields.ensures.rows ∙ drop_at c.fill.new.self rest 24 (c.fill.ensures.len ∙ wide) in
     loaded (record { most = met.small.1; fills = met.fills; back = met.back; forth = met.forth; fits = met.fits }) bs (bytes_typed bs c.type_inv.frame)
-    c.args.rows.now c.merge_fields.new.rows c.args.cells.now c.merge_fields.new.cells c.in-Ok.key c.in-Ok.ensures (sym c.if-not-has_room.ensures.value)
-    (c.merge_fields.ensures.state ∙ ap (λ S. merge S T) (c.clear.ensures.state c.args.cells.now)) (c.merge_fields.ensures.rows ∙ c.clear.ensures.beyond) c.merge_fields.ensures.cells
+    c.args.rows.now c.merge_fields.new.rows c.args.cells.now c.merge_fields.new.cells c.in_ok-key.key key.answer means beyond c.merge_fields.ensures.cells

@@ -1,34 +1,33 @@
-use Rattle.std.proofs.Common.{ℕ, List, length, drop, Some, None, Ok, Option, sym, ap, ◌∙◌, subst, arith}
-use Rattle.cursor.specs.Seen.{entry_seen}
-use Rattle.media.specs.Media.{behind}
+use Rattle.std.proofs.Common.{◌≡◌, None, sym, ap, ◌∙◌, arith, rules}
 use Rattle.journal.specs.Journals.{walked}
-use Rattle.journal.proofs.Walks.{Walking, opens, walk_refused, walk_ended, walk_more, step_ended, step_more}
+use Rattle.cursor.specs.Seen.{entry_shown}
+use Rattle.journal.proofs.Walks.{opens, walk_ended, walk_newer, walk_other, walk_refused}
 use Rattle.journal.proofs.entries.survey.Goals as goal
 
-pub returns-in-Err : goal.returns-in-Err
-returns-in-Err c =
+pub returns-in_err-entry-clause-value : goal.returns-in_err-entry-clause-value
+returns-in_err-entry-clause-value c =
     let bs = c.args.bytes.now in
-    let p = c.entries.cursor.at in
-    let is = c.in-Err.ensures.value ∙ ap (λ xs. entry_seen p (drop p xs)) c.entries.invariant.0 in
-    record { value = sym (ap (walked c.args.key 0 None) (opens bs c.if-bytes-gt65536.false) ∙ walk_refused bs c.args.key p (behind c.entries.newest) c.entries.invariant.1 c.in-Err.why is); within = tt }
+    let h = rw c.loop-entry.invariant.0 at c.in_err-entry.ensures.value in
+    let e = ap (walked c.args.key 0 None) (opens bs c.if-bytes-gt65536.false) ∙ walk_refused bs c.args.key _ _ c.loop-entry.invariant.1 _ h in
+    search rules
 
-pub returns-in-None : goal.returns-in-None
-returns-in-None c =
-    let bs = c.args.bytes.now in
-    let p = c.entries.cursor.at in
-    let nw = behind c.entries.newest in
-    let s = step_ended bs c.entries.cursor.bytes.now p c.entry.new.self.at c.in-Ok.next c.entries.invariant.0 c.in-Ok.ensures.value c.in-Ok.ensures.moved c.in-None.is in
-    record {
-      value = ap (λ m. Ok (m, nw)) s.1 ∙ sym (ap (walked c.args.key 0 None) (opens bs c.if-bytes-gt65536.false) ∙ walk_ended bs c.args.key p nw c.entries.invariant.1 s.0);
-      within = omega (arith, c.entry.new.self.within, ap length (c.in-Ok.ensures.same ∙ c.entries.invariant.0));
-    }
+pub loop-entry-preserved-then-entry-key : goal.loop-entry-preserved-then-entry-key
+loop-entry-preserved-then-entry-key c =
+    let h = rw (c.in-Some.is, c.loop-entry.invariant.0) at c.in_ok-entry.ensures.value in
+    let moved = rw c.in-Some.is at c.in_ok-entry.ensures.moved in
+    (c.in_ok-entry.ensures.same ∙ c.loop-entry.invariant.0, rw moved (walk_newer c.args.bytes.now c.args.key _ _ c.loop-entry.invariant.1 (entry_shown c.in-Some.entry) h c.if-entry-key.true))
 
-pub entries-preserved-in-Entry : goal.entries-preserved-in-Entry
-entries-preserved-in-Entry c =
+pub loop-entry-preserved : goal.loop-entry-preserved
+loop-entry-preserved c =
+    let h = rw (c.in-Some.is, c.loop-entry.invariant.0) at c.in_ok-entry.ensures.value in
+    let moved = rw c.in-Some.is at c.in_ok-entry.ensures.moved in
+    (c.in_ok-entry.ensures.same ∙ c.loop-entry.invariant.0, rw moved (walk_other c.args.bytes.now c.args.key _ _ c.loop-entry.invariant.1 (entry_shown c.in-Some.entry) h c.if-entry-key.false))
+
+pub returns-clause-value : goal.returns-clause-value
+returns-clause-value c =
     let bs = c.args.bytes.now in
-    let p = c.entries.cursor.at in
-    let to = c.entry.new.self.at in
-    let s = step_more bs c.entries.cursor.bytes.now p to c.in-Ok.next c.entries.invariant.0 c.in-Ok.ensures.value c.in-Ok.ensures.moved c.in-Entry.of c.in-Entry.frame c.in-Entry.at (c.in-Some.is ∙ ap Some c.in-Entry.is) in
-    let w = walk_more bs c.args.key p (behind c.entries.newest) c.entries.invariant.1 c.in-Entry.of c.in-Entry.frame.now c.in-Entry.at to s.1 s.0 in
-    let P : Option (List ℕ) → Type 0 = Walking bs c.args.key to in
-    (c.in-Ok.ensures.same ∙ c.entries.invariant.0, subst P (sym c.later-newest.ensures) w)
+    let h = rw (c.in_default.is, c.loop-entry.invariant.0) at c.in_ok-entry.ensures.value in
+    let moved = rw c.in_default.is at c.in_ok-entry.ensures.moved in
+    let same : c.entry.new.self.at ≡ c.loop-entry.cursor.at = omega arith in
+    let e = ap (walked c.args.key 0 None) (opens bs c.if-bytes-gt65536.false) ∙ walk_ended bs c.args.key _ _ c.loop-entry.invariant.1 h in
+    rw same (sym e)

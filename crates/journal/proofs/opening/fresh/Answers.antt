@@ -1,4 +1,4 @@
-use Rattle.std.proofs.Common.{ℕ, ◌≤◌, ◌&&◌, leb, List, length, Ok, sym, ap, ◌∙◌, subst, arith}
+use Rattle.std.proofs.Common.{◌≡◌, ℕ, ◌≤◌, ◌&&◌, leb, List, length, Ok, sym, ap, ◌∙◌, subst, replicate, arith, rules}
 use Rattle.std.proofs.lemmas.Bool.{and_from, cond-true, le-leb}
 use Rattle.formats.specs.Entries.{opening}
 use Rattle.media.specs.Media.{Fresh}
@@ -12,7 +12,8 @@ returns c =
     let some : 1760 ≤ n = omega arith in
     let few : n ≤ 65536 = omega arith in
     let P : List ℕ → Type 0 = λ cs. Fresh (newest_of (opening cs)) (left_of (length cs) (opening cs)) in
+    let zeros : c.fill.new.self ≡ replicate n 0 = search rules in
     record {
-      value = ap Ok c.zero.ensures ∙ sym (cond-true (leb 1760 n && leb n 65536) _ _ (and_from _ _ (le-leb 1760 n some) (le-leb n 65536 few)));
-      fresh = subst P (sym c.zero.ensures) (fresh_zeros n some few);
+      value = ap Ok zeros ∙ sym (cond-true (leb 1760 n && leb n 65536) _ _ (and_from _ _ (le-leb 1760 n some) (le-leb n 65536 few)));
+      fresh = subst P (sym zeros) (fresh_zeros n some few);
     }

@@ -1,9 +1,0 @@
-use Rattle.std.proofs.Common.{◌≡◌, List, drop}
-use Rattle.dvvset.specs.Clock.{discard_column}
-use Rattle.dvvset.proofs.Zips.{upto}
-use Rattle.clock.specs.Memory.{state}
-use Rattle.clock.proofs.keys.discard_columns.Given as goal
-
-abbrev pub invariant-loop-c : goal.invariant-loop-c
-invariant-loop-c g l =
-    ((cells : List g.row.V.Denot) → state l.rows cells ≡ upto discard_column l.c (state l.initial.rows cells) l.context.tops) × (drop 24 l.rows ≡ drop 24 l.initial.rows)

@@ -1,0 +1,9 @@
+use Rattle.std.specs.Result.{result_ok}
+use Rattle.replay.proofs.Numbers.{number_is}
+use Rattle.replay.proofs.Taken.{told-ok_or}
+use Rattle.replay.proofs.parsing.Words.number.Goals as goal
+
+pub returns : goal.returns
+returns c =
+    let h = c.read.ensures in
+    rw (c.in_ok-word.ensures, number_is c.in_ok-word.word.now h.0 h.1.0, h.2) (told-ok_or c.args.part c.in_ok-word.word (result_ok h.0) _)
