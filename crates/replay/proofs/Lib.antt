@@ -1,4 +1,3 @@
-pub mod Padded
 pub mod Fronts
 pub mod Listed
 pub mod Sent
@@ -6,6 +5,3 @@ pub mod Held
 pub mod Contexts
 pub mod Giving
 pub mod Accepted
-pub mod Cut
-pub mod Numbers
-pub mod Taken

@@ -13,7 +13,7 @@ use Rattle.formats.specs.Frames.{frame, frame_length}
 use Rattle.frames.specs.Taking.{merging_frame}
 use Rattle.values.specs.Layouts.{setting_bytes, setting_of}
 use Rattle.replay.specs.Places.{place_of, there}
-use Rattle.replay.specs.declared.calls.Spot.{Spot}
+use Rattle.scenario.specs.declared.calls.Spot.{Spot}
 use Rattle.replay.specs.declared.errors.Failure.{Failure}
 use Rattle.replay.specs.declared.errors.Failure.TheVariants.{Refused, Unmade}
 use Rattle.replay.specs.declared.errors.NotMade.{NotMade}

@@ -1,7 +1,5 @@
-pub mod Labels
 pub mod Places
 pub mod Gifts
 pub mod Keys
 pub mod Saves
-pub mod Parsing
 pub mod Sessions

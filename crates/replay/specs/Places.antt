@@ -2,7 +2,7 @@
 use Rattle.std.specs.Prelude.{◌≡◌, ℕ, ◌+◌, ◌*◌, Bool, true, false, ◌&&◌, Result, MatchResult, nat_le}
 use Rattle.refusals.specs.declared.Refusal.{Refusal}
 use Rattle.refusals.specs.declared.Refusal.TheVariants.{NoSuchSeatOrKey}
-use Rattle.replay.specs.declared.calls.Spot.{Spot}
+use Rattle.scenario.specs.declared.calls.Spot.{Spot}
 use Rattle.replay.specs.declared.places.SeatKey.{SeatKey}
 
 abbrev pub there : Spot → Bool

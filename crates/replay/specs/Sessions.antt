@@ -9,17 +9,17 @@ use Rattle.media.specs.Slots.{frames_of, slots_left}
 use Rattle.media.specs.declared.slot.Slots.{Slots}
 use Rattle.replay.specs.Gifts.{given, giving}
 use Rattle.replay.specs.Keys.{Changes, Fails, Sends, Tells, delete_on, deliver_on, no_state, put_on}
-use Rattle.replay.specs.Parsing.{Fault}
+use Rattle.scenario.specs.Parsing.{Fault}
 use Rattle.replay.specs.Places.{there}
 use Rattle.replay.specs.Saves.{AllFresh, Holds, Keeps}
 use Rattle.replay.specs.declared.answers.Answer.{Answer}
 use Rattle.replay.specs.declared.answers.Answer.TheVariants.{Written, Done, Seen, Sent, Saved}
 use Rattle.replay.specs.declared.answers.Made.{Made}
 use Rattle.replay.specs.declared.answers.Reading.{Reading}
-use Rattle.replay.specs.declared.calls.Action.{Action}
-use Rattle.replay.specs.declared.calls.Action.TheVariants.{Put, Delete, Get, Send, Save, Deliver}
-use Rattle.replay.specs.declared.calls.Call.{Call}
-use Rattle.replay.specs.declared.calls.Spot.{Spot}
+use Rattle.scenario.specs.declared.calls.Action.{Action}
+use Rattle.scenario.specs.declared.calls.Action.TheVariants.{Put, Delete, Get, Send, Save, Deliver}
+use Rattle.scenario.specs.declared.calls.Call.{Call}
+use Rattle.scenario.specs.declared.calls.Spot.{Spot}
 use Rattle.replay.specs.declared.cockpit.KeyState.{KeyState}
 use Rattle.replay.specs.declared.errors.Failure.{Failure}
 use Rattle.replay.specs.declared.errors.Failure.TheVariants.{Refused, Unmade}

@@ -1,12 +1,12 @@
 // What a call answers.
 ghost use Rattle.std.specs.Prelude.{◌≤◌};
 
-use crate::labels::Labelled;
 use crate::seat_media::Holding;
 use clock::Context;
 use context_frames::write_context;
 use dvvset::{Dot, Sibling};
 use refusals::Refusal;
+use scenario::Labelled;
 use std::fmt;
 use values::Setting;
 

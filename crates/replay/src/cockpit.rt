@@ -2,13 +2,13 @@
 ghost use Rattle.std.specs.Prelude.{◌≡◌, vec_len};
 
 use crate::answers::Reading;
-use crate::calls::Spot;
 use crate::errors::Failure;
 use crate::places::SeatKey;
 use clock::{Context, Row, context_of, discard, list, put};
 use dvvset::{Dot, Sibling};
 use frames::{merge_frame, write_frame};
 use refusals::Refusal;
+use scenario::Spot;
 use std::alloc::{AllocError, Global};
 use values::Setting;
 

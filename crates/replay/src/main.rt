@@ -2,13 +2,9 @@
 #![tactic(auto)]
 
 mod answers;
-mod bad_lines;
-mod calls;
 mod cockpit;
 mod errors;
 mod history;
-mod labels;
-mod parsing;
 mod places;
 mod playing;
 mod seat_media;

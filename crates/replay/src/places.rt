@@ -1,9 +1,9 @@
 // Where the state of a seat and key stands, and the column that the seat owns.
 ghost use Rattle.std.specs.Prelude.{◌≡◌, ◌+◌, ◌*◌, ◌<◌, ◌≤◌};
 
-use crate::calls::Spot;
 use clock::{ColumnIndex, own_column};
 use refusals::Refusal;
+use scenario::Spot;
 
 // A seat and a key that are there.
 #[derive(Clone, Copy)]

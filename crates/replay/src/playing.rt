@@ -1,11 +1,11 @@
 // Plays the lines of a scenario, and prints what each comes to.
 ghost use Rattle.std.specs.Prelude.{OnOk};
-ghost use Rattle.replay.specs.Parsing.{line_call};
+ghost use Rattle.scenario.specs.Parsing.{line_call};
 ghost use Rattle.replay.specs.Sessions.{PlaysLine};
 
 use crate::errors::NotMade;
-use crate::parsing::parse;
 use crate::session::Session;
+use scenario::parse;
 use std::io;
 use std::io::{BufRead, BufReader};
 

@@ -3,13 +3,13 @@ ghost use Rattle.std.specs.Prelude.{◌≡◌, IfOk};
 ghost use Rattle.replay.specs.Sessions.{Answers, Fresh, Makes, Names};
 
 use crate::answers::{Answer, Made};
-use crate::calls::{Action, Call};
 use crate::cockpit::Cockpit;
 use crate::errors::{Failure, NotMade};
 use crate::history::History;
 use crate::places::SeatKey;
 use crate::seat_media::{Holding, Media};
 use clock::Context;
+use scenario::{Action, Call};
 use std::alloc::{AllocError, Global};
 
 // The seats and their media, the contexts and frames given so far, and how many calls were made.

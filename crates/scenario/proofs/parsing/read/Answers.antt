@@ -1,5 +1,5 @@
 use Rattle.std.proofs.Common.{rules}
-use Rattle.replay.proofs.parsing.read.Goals as goal
+use Rattle.scenario.proofs.parsing.read.Goals as goal
 
 pub returns : goal.returns
 returns g c = (c.parse.result, c.parse.ensures.value, search rules)

@@ -1,8 +1,8 @@
 use Rattle.std.specs.Result.{result_ok}
-use Rattle.replay.proofs.Numbers.{measure_is}
-use Rattle.replay.proofs.Taken.{told-ok_or}
-use Rattle.replay.specs.declared.bad_lines.Part.TheVariants.{Measure}
-use Rattle.replay.proofs.parsing.Words.measure.Goals as goal
+use Rattle.scenario.proofs.Numbers.{measure_is}
+use Rattle.scenario.proofs.Taken.{told-ok_or}
+use Rattle.scenario.specs.declared.bad_lines.Part.TheVariants.{Measure}
+use Rattle.scenario.proofs.parsing.Words.measure.Goals as goal
 
 pub returns : goal.returns
 returns c =

@@ -2,7 +2,7 @@
 ghost use Rattle.std.specs.Prelude.{◌≡◌};
 ghost use Rattle.std.specs.Char.{is_ascii_graphic};
 ghost use Rattle.std.specs.List.{list_all};
-ghost use Rattle.replay.specs.Labels.{label_of};
+ghost use Rattle.scenario.specs.Labels.{label_of};
 
 use std::fmt;
 use values::Setting;

@@ -1,7 +1,7 @@
 use Rattle.std.specs.Result.{result_ok}
-use Rattle.replay.proofs.Numbers.{number_is}
-use Rattle.replay.proofs.Taken.{told-ok_or}
-use Rattle.replay.proofs.parsing.Words.number.Goals as goal
+use Rattle.scenario.proofs.Numbers.{number_is}
+use Rattle.scenario.proofs.Taken.{told-ok_or}
+use Rattle.scenario.proofs.parsing.Words.number.Goals as goal
 
 pub returns : goal.returns
 returns c =

@@ -2,8 +2,8 @@
 ghost use Rattle.std.specs.Prelude.{◌≡◌, [], ◌∷◌, MatchOption, MatchResult, Result};
 ghost use Rattle.std.specs.Option.{ok_or};
 ghost use Rattle.std.specs.Result.{result_ok};
-ghost use Rattle.replay.specs.Labels.{label_of};
-ghost use Rattle.replay.specs.Parsing.{call_of, said, words};
+ghost use Rattle.scenario.specs.Labels.{label_of};
+ghost use Rattle.scenario.specs.Parsing.{call_of, said, words};
 
 use crate::bad_lines::{BadLine, Part};
 use crate::calls::{Action, Call, Spot};
@@ -27,7 +27,7 @@ where
 }
 
 impl<'a> Words<'a> {
-    ghost use Rattle.replay.specs.Parsing.{delete, deliver, ended, left, measure_of, named, number_of, plain, put, reading, setting, spot, told};
+    ghost use Rattle.scenario.specs.Parsing.{delete, deliver, ended, left, measure_of, named, number_of, plain, put, reading, setting, spot, told};
 
     fn next(&mut self) -> Option<&'a str>
         ensures { MatchOption result ((left self.old ≡ []) × (left self.new ≡ [])) (λ w. left self.old ≡ w.now ∷ left self.new) }

@@ -6,16 +6,16 @@ use Rattle.std.specs.List.{list_all, slice_split}
 use Rattle.std.specs.Str.Iter.{split_ascii_whitespace_text}
 use Rattle.std.specs.Str.Parse.{digits_value, starts_with_minus, without_leading_plus, without_leading_sign}
 use Rattle.values.specs.declared.setting.Setting.{Setting}
-use Rattle.replay.specs.Labels.{label_of}
-use Rattle.replay.specs.declared.bad_lines.BadLine.{BadLine}
-use Rattle.replay.specs.declared.bad_lines.BadLine.TheVariants.{NoSuchCall, Missing, Malformed, Superfluous}
-use Rattle.replay.specs.declared.bad_lines.Part.{Part}
-use Rattle.replay.specs.declared.bad_lines.Part.TheVariants.{Seat, Key, Measure, Label, CallNumber}
-use Rattle.replay.specs.declared.calls.Action.{Action}
-use Rattle.replay.specs.declared.calls.Action.TheVariants.{Put, Delete, Get, Send, Save, Deliver}
-use Rattle.replay.specs.declared.calls.Call.{Call}
-use Rattle.replay.specs.declared.calls.Spot.{Spot}
-use Rattle.replay.specs.declared.parsing.Words.{Words}
+use Rattle.scenario.specs.Labels.{label_of}
+use Rattle.scenario.specs.declared.bad_lines.BadLine.{BadLine}
+use Rattle.scenario.specs.declared.bad_lines.BadLine.TheVariants.{NoSuchCall, Missing, Malformed, Superfluous}
+use Rattle.scenario.specs.declared.bad_lines.Part.{Part}
+use Rattle.scenario.specs.declared.bad_lines.Part.TheVariants.{Seat, Key, Measure, Label, CallNumber}
+use Rattle.scenario.specs.declared.calls.Action.{Action}
+use Rattle.scenario.specs.declared.calls.Action.TheVariants.{Put, Delete, Get, Send, Save, Deliver}
+use Rattle.scenario.specs.declared.calls.Call.{Call}
+use Rattle.scenario.specs.declared.calls.Spot.{Spot}
+use Rattle.scenario.specs.declared.parsing.Words.{Words}
 
 abbrev pub WordList : Type 0
 WordList = List (List ℕ)

@@ -1,5 +1,0 @@
-use Rattle.replay.proofs.Cut.{words-cut}
-use Rattle.replay.proofs.parsing.Words.next.Goals as goal
-
-pub returns : goal.returns
-returns c = words-cut _ _ c.next.result c.next.ensures.steps

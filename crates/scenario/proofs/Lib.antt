@@ -1,0 +1,4 @@
+pub mod Padded
+pub mod Cut
+pub mod Numbers
+pub mod Taken
