@@ -27,7 +27,7 @@ fn play_line(rt: &impl Print, session: &mut Session, number: u64, line: &str) ->
     }
 }
 
-// All lines of standard input.
+// All lines of standard input, in their order. No clause says so, nor what is printed: both are compared with the reference.
 pub fn play(rt: &HostRuntime) -> io::Result<()> {
     let mut session = Session::new(rt.alloc())?;
     // counted beside the lines, and no `enumerate`: the last number may not pass the type's end
