@@ -32,7 +32,7 @@ module _ {V : Type 0} where
       ∙ sym (append_assoc (dotted a x.top x.values) (siblings_from (a + 1) (take i S)) _)
 
   -- the first columns have no more siblings than all
-  siblings_short : (a i : ℕ) (S : State V) → length (siblings_from a (take i S)) ≤ length (siblings_from a S)
+  pub siblings_short : (a i : ℕ) (S : State V) → length (siblings_from a (take i S)) ≤ length (siblings_from a S)
   siblings_short a zero S = omega arith
   siblings_short a (suc i) [] = omega arith
   siblings_short a (suc i) (x ∷ S) =
@@ -104,11 +104,11 @@ module _ {V : Type 0} where
 -- ---- the tops
 
 module _ {V : Type 0} (rows : List Row) (cells : List V) where
-  length-context : length (context (state rows cells)) ≡ 24
+  pub length-context : length (context (state rows cells)) ≡ 24
   unfolding context
   length-context = length-map (state rows cells) (λ a. a.top) ∙ length-state rows cells
 
-  get_or-context : (c : ℕ) → c < 24 → get_or (context (state rows cells)) c 0 ≡ top_of (get_or rows c no_row)
+  pub get_or-context : (c : ℕ) → c < 24 → get_or (context (state rows cells)) c 0 ≡ top_of (get_or rows c no_row)
   unfolding context
   get_or-context c h = get_or-map (λ a. a.top) (state rows cells) c no_writes 0 (omega (arith, length-state rows cells)) ∙ ap (λ a. a.top) (get_or-state rows cells c no_writes h)
 

@@ -1,9 +1,7 @@
 -- A put by the column that it writes to; and what a call leaves. Assumes nothing.
-use Rattle.std.proofs.Common.{◌≡◌, ℕ, ◌+◌, ◌*◌, ◌<◌, ◌≤◌, true, false, cond, eqb, List, ◌++◌, length, get_or, take, drop, set, replicate, Ok, Err, sym, refl, ap, ◌∙◌, arith}
+use Rattle.std.proofs.Common.{◌≡◌, ℕ, ◌+◌, ◌*◌, ◌<◌, ◌≤◌, true, false, cond, eqb, List, ◌++◌, length, get_or, drop, set, replicate, Ok, Err, sym, refl, ap, ◌∙◌, arith}
 use Rattle.std.proofs.lemmas.Bool.{eq-eqb, ne_eqb, cond-true, cond-false}
-use borrow.Rule.Slice.PartMut.{put_mid}
-use Rattle.std.proofs.lemmas.List.{drop_at, length-set}
-use Rattle.std.proofs.lemmas.Slice.{drop-put_mid}
+use Rattle.std.proofs.lemmas.List.{drop_at}
 use Rattle.refusals.specs.declared.Refusal.{Refusal}
 use Rattle.refusals.specs.declared.Refusal.TheVariants.{TooManySiblings, CounterExhausted, ShortMemory}
 use Rattle.dvvset.specs.Clock.{ColumnState, State, Outcome, refused, accepted, answer, after, discard_column, discard, push, put, no_writes, column_at}
@@ -14,7 +12,7 @@ use Rattle.clock.specs.Calls.{Leaves, Remains, in_room, unless_refused, putting}
 use Rattle.clock.specs.declared.contexts.Context.{Context}
 use Rattle.clock.specs.declared.rows.Row.{Row}
 use Rattle.clock.proofs.One.{discard_is}
-use Rattle.clock.proofs.Whole.{length-column, length-state, get_or-state, column_part, state_discarded, state_front_rows, state-put}
+use Rattle.clock.proofs.Whole.{length-column, length-state, get_or-state, state_front_rows}
 
 -- ---- what a call leaves
 
@@ -85,14 +83,6 @@ module _ {V : Type 0} (rows : List Row) (cells : List V) (context : Context) (c 
     pub leaves_9 : roomy rows cells ≡ false → Leaves rows cells o (Err ShortMemory) rows cells
     leaves_9 e = leaves_refused rows cells o ShortMemory (told ∙ cond-false (roomy rows cells) _ _ e)
 
-    -- new are the rows once the context's writes are gone, and ys the own cells with v in front; k is 4 * c + 4 - 4 * c
-    pub leaves_put : roomy rows cells ≡ true → 96 ≤ length cells → (new : List Row) → length new ≡ 24 → ((i : ℕ) → i < 24 → Remains rows context.tops i (get_or new i no_row)) → r ≡ get_or new c no_row → (k : ℕ) (ys : List V) (p : Row) → k ≡ 4 → length ys ≡ 4 → column p ys ≡ push v (column r (take k (drop (4 * c) cells))) → (m : ℕ) → m ≡ top_of r → Leaves rows cells o (Ok (record { column = c; counter = m + 1 })) (set new c p ++ drop 24 rows) (put_mid (4 * c) k cells ys)
-    leaves_put e room new wide each here k ys p four long pushed m is =
-        leaves_accepted rows cells o _ _ (set new c p ++ drop 24 rows) (put_mid (4 * c) k cells ys)
-        (told ∙ cond-true (roomy rows cells) _ _ e ∙ put_ok rows cells context c v r inside left room t n ∙ ap (λ j. accepted (record { column = c; counter = j + 1 }) (set (discard context.tops (state rows cells)) c (push v (column r (drop (4 * c) cells))))) (sym is))
-        (state_front_rows (set new c p) (drop 24 rows) (put_mid (4 * c) k cells ys) (length-set new c p ∙ wide)
-        ∙ state-put new cells c p inside (omega arith) k ys four long room
-        ∙ ap (λ S. set S c (column p ys)) (state_discarded rows new context.tops cells context.wide each)
-        ∙ ap (set (discard context.tops (state rows cells)) c) (pushed ∙ ap (push v) (column_part r k (drop (4 * c) cells) (omega arith))))
-        (drop_at (set new c p) (drop 24 rows) 24 (length-set new c p ∙ wide))
-        (drop-put_mid (4 * c) k cells ys 96 (omega arith) (omega arith) (omega arith))
+    pub leaves_put : roomy rows cells ≡ true → 96 ≤ length cells → (k : ℕ) → k ≡ top_of r → (rows' : List Row) (cells' : List V) → state rows' cells' ≡ set (discard context.tops (state rows cells)) c (push v (column r (drop (4 * c) cells))) → drop 24 rows' ≡ drop 24 rows → drop 96 cells' ≡ drop 96 cells → Leaves rows cells o (Ok (record { column = c; counter = k + 1 })) rows' cells'
+    leaves_put e room k is rows' cells' =
+        leaves_accepted rows cells o _ _ rows' cells' (told ∙ cond-true (roomy rows cells) _ _ e ∙ put_ok rows cells context c v r inside left room t n ∙ ap (λ m. accepted (record { column = c; counter = m + 1 }) (set (discard context.tops (state rows cells)) c (push v (column r (drop (4 * c) cells))))) (sym is))

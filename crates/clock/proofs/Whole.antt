@@ -61,6 +61,9 @@ module _ {V : Type 0} where
             let q : get_or (set (state rows cells) c (column r (drop (4 * c) new))) i no_writes ≡ get_or (state rows cells) i no_writes = get_or-set_other (state rows cells) c i _ no_writes n in
             rw (p, q) (other i (get_or rows i no_row) n ∙ sym (get_or-state rows cells i no_writes l))
 
+    pub state-row : state (set rows c r) cells ≡ set (state rows cells) c (column r (drop (4 * c) cells))
+    state-row = state_set cells (λ i q n. refl)
+
     -- k is 4 * c + 4 - 4 * c
     pub state-put : (k : ℕ) (ys : List V) → k ≡ 4 → length ys ≡ 4 → 96 ≤ length cells → state (set rows c r) (put_mid (4 * c) k cells ys) ≡ set (state rows cells) c (column r ys)
     state-put k ys e l room = state_set (put_mid (4 * c) k cells ys) other ∙ ap (set (state rows cells) c) own
