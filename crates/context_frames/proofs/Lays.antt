@@ -19,7 +19,7 @@ module _ (C : List ℕ) (c : ℕ) (h : c < length C) where
   abbrev t : ℕ
   t = get_or C c 0
 
-  next-top : tops_laid (take (c + 1) C) ≡ tops_laid (take c C) ++ cond (eqb t 0) [] (top_field c t)
+  pub next-top : tops_laid (take (c + 1) C) ≡ tops_laid (take c C) ++ cond (eqb t 0) [] (top_field c t)
   next-top = let e : c + 1 ≡ suc c = omega arith in ap (λ n. tops_laid (take n C)) e ∙ fields_more (λ t. eqb t 0) top_field 0 c c C 0 h (omega arith)
 
   next_count : count_by is_told (take (c + 1) C) ≡ count_by is_told (take c C) + cond (is_told t) 1 0

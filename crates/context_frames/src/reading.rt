@@ -15,7 +15,6 @@ pub fn read_context(bytes: &[u8]) -> Result<KeyedContext, Refusal>
     let mut cursor = Cursor::new(bytes);
     let key = cursor.context_head()?.key;
     let mut tops = [0; 24];
-    // the lowest column that may come next
     // the lowest column that may come next; for the loop see `frames::check`
     let mut from = 0;
     while !cursor.ended() {

@@ -59,7 +59,7 @@ module _ {V : Type 0} (w : ℕ) (value_of : List ℕ → V) (bs : List ℕ) wher
 
       module _ (at : ℕ) (rows : List Row) (cells : List V) (mid : Midway at rows cells) where
         -- only the end is refused
-        ended : (e : Refusal) → Err e ≡ column_seen w at (drop at bs) → length bs ≤ at
+        pub ended : (e : Refusal) → Err e ≡ column_seen w at (drop at bs) → length bs ≤ at
         ended e h =
             ⊎_elim (λ (l : at < length bs). absurd (let r = walks.refused_here w value_of bs mid.from at e l h in let s = mid.left in let z : ◌≡◌ {A = ℕ} 0 1 = cc in omega arith)) (λ (l : length bs ≤ at). l) (cases_lt at (length bs))
 

@@ -64,3 +64,7 @@ module _ {V : Type 0} (w : ℕ) (value_of : List ℕ → V) where
                     cells_are = ap (λ c. set c n (value_of x)) mid.cells_are ∙ seam mid.done n (value_of x) mid.n_is (omega arith);
                   },
                 )
+
+        -- at a place that is the n-th
+        pub next_at : (i : ℕ) → (n < count → i ≡ n) → Midway (n + 1) rest' (set cells i (value_of x))
+        next_at i here = rw (here next.0) next.1

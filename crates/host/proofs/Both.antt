@@ -56,7 +56,7 @@ taken {S} bs room f s t key yes-room = go (reading 16 setting_of bs) refl room y
 pub kept_room : (rows : List Row) (cells : List Setting) → length rows ≡ 24 → length cells ≡ 96 → roomy rows cells ≡ true
 kept_room rows cells p q = and_from (leb 24 (length rows)) (leb 96 (length cells)) (le-leb 24 (length rows) (omega arith)) (le-leb 96 (length cells) (omega arith))
 
-both_read : (first second out : List ℕ) (a b : Keyed (State Setting)) → reading 16 setting_of first ≡ Ok a → reading 16 setting_of second ≡ Ok b → merging_frames first second out ≡ joined a b out
+pub both_read : (first second out : List ℕ) (a b : Keyed (State Setting)) → reading 16 setting_of first ≡ Ok a → reading 16 setting_of second ≡ Ok b → merging_frames first second out ≡ joined a b out
 both_read first second out a b is was = ap (λ r. first_read r (reading 16 setting_of second) out) is ∙ ap (λ r. second_read a r out) was
 
 pub record Merged (first second out new : List ℕ) (r : Result ℕ Refusal) : Type 0 where

@@ -68,7 +68,7 @@ module _ (bs : List ℕ) (key p : ℕ) (newest : Option (List ℕ)) (far : Walki
       let n : p + 0 ≡ p = omega arith in
       far ∙ ap (walked key p newest) (all_ended p (drop p bs) (ended p (next_entry p (drop p bs)) is)) ∙ ap (λ m. Ok (m, newest)) n
 
-  walk_more : (s : EntryShown) → Ok (Some s) ≡ entry_seen p (drop p bs) → Walking bs key (p + (4 + length s.frame)) (cond (eqb key s.key) (Some s.frame) newest)
+  pub walk_more : (s : EntryShown) → Ok (Some s) ≡ entry_seen p (drop p bs) → Walking bs key (p + (4 + length s.frame)) (cond (eqb key s.key) (Some s.frame) newest)
   walk_more s is =
       let k = s.key in
       let frame = s.frame in

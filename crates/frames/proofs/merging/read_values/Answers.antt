@@ -1,6 +1,6 @@
 use Rattle.std.proofs.Common.{◌≡◌, ◌∙◌, ap, arith}
 use Rattle.std.proofs.lemmas.List.{take_all}
-use Rattle.frames.proofs.ValuesRead.{starts, at_the_end, next}
+use Rattle.frames.proofs.ValuesRead.{starts, at_the_end, next, next_at}
 use Rattle.frames.proofs.merging.read_values.Goals as goal
 
 pub loop-i-init : goal.loop-i-init
@@ -24,9 +24,10 @@ loop-i-preserved g c =
     let w = g.V.Value.width in
     let s = c.in-Some.ensures.steps in
     let fill : _ ≡ w = s.0.1.1 ∙ c.loop-i.invariant.0 in
-    let n = next w g.V.Value.value_of c.args.cells.now c.args.field.now.count c.args.field.now.values.now _ _ _ c.loop-i.invariant.1 c.requires.cells g.met.V.Value.small.0 c.in-Some.bytes.now c.next.new.self.iter.rest.now s.0.1.0 fill in
+    let at = s.1 in
+    let n = next_at w g.V.Value.value_of c.args.cells.now c.args.field.now.count c.args.field.now.values.now _ _ _ c.loop-i.invariant.1 c.requires.cells g.met.V.Value.small.0 c.in-Some.bytes.now c.next.new.self.iter.rest.now s.0.1.0 fill in
     let x = c.read_from.ensures.value ∙ ap g.V.Value.value_of (take_all w c.in-Some.bytes.now (omega arith)) in
-    (s.0.0 ∙ c.loop-i.invariant.0, rw (s.1, s.2, x) n.1)
+    (s.0.0 ∙ c.loop-i.invariant.0, rw (s.2, x) (n _ (λ lt. omega arith)))
 
 pub returns : goal.returns
 returns g c =
