@@ -4,4 +4,5 @@ pub mod Sent
 pub mod Held
 pub mod Contexts
 pub mod Giving
+pub mod Rising
 pub mod Accepted

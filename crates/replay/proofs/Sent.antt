@@ -1,6 +1,6 @@
 -- The memory of a send always holds the frame. Assumes nothing.
 use Rattle.std.proofs.Common.{◌≡◌, ℕ, ◌≤◌, List, ◌++◌, length, take, drop, Ok, Result, lit≤, w32, refl, sym, ap, ◌∙◌, arith}
-use Rattle.std.proofs.lemmas.List.{length-append}
+use Rattle.std.proofs.lemmas.List.{length-append, take_at}
 use Rattle.std.proofs.lemmas.Bool.{le-leb}
 use Rattle.refusals.specs.declared.Refusal.{Refusal}
 use Rattle.values.specs.Layouts.{SettingFits, setting_bytes, setting_of}
@@ -16,7 +16,6 @@ use Rattle.formats.proofs.Offsets.{length_most}
 use Rattle.formats.proofs.Theorem.{one_frame_lem}
 use Rattle.frames.specs.Taking.{writing_frame}
 use Rattle.replay.specs.Keys.{meaning}
-use Rattle.replay.proofs.Fronts.{front}
 use Rattle.replay.specs.declared.cockpit.KeyState.{KeyState}
 
 setting_fills : (s : Setting) → SettingFits s → length (setting_bytes s) ≡ 16
@@ -36,8 +35,9 @@ module _ (k : KeyState) (rows : length k.rows ≡ 24) (cells : length k.cells �
   writing_is =
       rw (le-leb key 15 low, le-leb 24 (length k.rows) (omega arith), le-leb 96 (length k.cells) (omega arith), le-leb size (length out) (omega (arith, short))) refl
 
-  pub sent : (n m : ℕ) (new d : List ℕ) → Ok n ≡ answer (writing_frame 16 setting_bytes key k.rows k.cells out) → new ≡ after out (writing_frame 16 setting_bytes key k.rows k.cells out) → Fit SettingFits (meaning k) → m ≡ 1756 → (take n (take m (new ++ d)) ≡ frame setting_bytes key (meaning k)) × (length (frame setting_bytes key (meaning k)) ≡ size)
-  sent n m new d a b fit e =
+  pub sent : (n : ℕ) (new : List ℕ) → Ok n ≡ answer (writing_frame 16 setting_bytes key k.rows k.cells out) → new ≡ after out (writing_frame 16 setting_bytes key k.rows k.cells out) → Fit SettingFits (meaning k) → (n ≡ size) × (new ≡ frame setting_bytes key (meaning k) ++ drop n out) × (take n new ≡ frame setting_bytes key (meaning k))
+  sent n new a b fit =
       let size-is : n ≡ size = (let h : ◌≡◌ {A = Result ℕ Refusal} (Ok n) (Ok size) = a ∙ ap answer writing_is in cc) in
       let long : length (frame setting_bytes key (meaning k)) ≡ size = (one_frame_lem setting_code).long key (meaning k) (state_legal k.rows k.cells) fit in
-      (rw (b, writing_is) (front n m _ (drop size out) d (long ∙ sym size-is) (omega (arith, short))), long)
+      let is : new ≡ frame setting_bytes key (meaning k) ++ drop n out = b ∙ ap (after out) writing_is ∙ ap (λ m. frame setting_bytes key (meaning k) ++ drop m out) (sym size-is) in
+      (size-is, is, rw is (take_at (frame setting_bytes key (meaning k)) (drop n out) n (long ∙ sym size-is)))

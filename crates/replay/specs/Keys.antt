@@ -1,6 +1,5 @@
 -- What the calls leave of the states of the seats. Assumes nothing.
-use Rattle.std.specs.Prelude.{◌≡◌, ℕ, ◌*◌, Bool, true, false, cond, List, length, replicate, pos, Err, Result, MatchResult, slice_index_or, slice_set}
-use Rattle.std.specs.Global.{Vec}
+use Rattle.std.specs.Prelude.{◌≡◌, ℕ, ◌*◌, Bool, true, false, cond, List, ◌++◌, take, drop, replicate, pos, Err, Result, MatchResult, slice_index_or, slice_set}
 use Rattle.refusals.specs.declared.Refusal.{Refusal}
 use Rattle.refusals.specs.declared.Refusal.TheVariants.{NoSuchSeatOrKey}
 use Rattle.values.specs.declared.setting.Setting.{Setting}
@@ -14,10 +13,7 @@ use Rattle.frames.specs.Taking.{merging_frame}
 use Rattle.values.specs.Layouts.{setting_bytes, setting_of}
 use Rattle.replay.specs.Places.{place_of, there}
 use Rattle.scenario.specs.declared.calls.Spot.{Spot}
-use Rattle.replay.specs.declared.errors.Failure.{Failure}
-use Rattle.replay.specs.declared.errors.Failure.TheVariants.{Refused, Unmade}
-use Rattle.replay.specs.declared.errors.NotMade.{NotMade}
-use Rattle.replay.specs.declared.errors.NotMade.TheVariants.{NoSuchGet, NoSuchSend, OutOfMemory}
+use Rattle.replay.specs.declared.answers.Frame.{Frame}
 use Rattle.replay.specs.declared.answers.Reading.{Reading}
 use Rattle.replay.specs.declared.cockpit.KeyState.{KeyState}
 
@@ -50,24 +46,19 @@ pub record Changes {A : Type 0} (at : Spot) (inside : Bool) (o : KeyState → Ou
   pub answers : r ≡ cond inside (answer (o (key_at ks at))) (Err NoSuchSeatOrKey)
   pub states : MatchResult r (λ _. (k : KeyState) × (ks' ≡ slice_set ks (place_of at) k) × (meaning k ≡ after (meaning (key_at ks at)) (o (key_at ks at)))) (λ _. ks' ≡ ks)
 
--- Why a get or a send fails: where seat and key are there, memory can run out; else they are refused.
-abbrev pub OnlyMemory : NotMade → Type 0
-OnlyMemory (OutOfMemory e) = Unit {0}
-OnlyMemory (NoSuchGet call key) = ⊥
-OnlyMemory (NoSuchSend call key) = ⊥
-
-abbrev pub Fails : Spot → Failure → Type 0
-Fails at (Refused e) = (there at ≡ false) × (e ≡ NoSuchSeatOrKey)
-Fails at (Unmade why) = (there at ≡ true) × OnlyMemory why
+-- Why a get or a send fails.
+abbrev pub Fails : Spot → Refusal → Type 0
+Fails at e = (there at ≡ false) × (e ≡ NoSuchSeatOrKey)
 
 -- What a get tells: the key, its siblings, and its tops.
-abbrev pub Tells : Spot → List KeyState → Result Reading Failure → Type 0
+abbrev pub Tells : Spot → List KeyState → Result Reading Refusal → Type 0
 Tells at ks r =
-    MatchResult r (λ x. (there at ≡ true) × (x.key ≡ at.key) × (x.siblings.items ≡ siblings (meaning (key_at ks at))) × (x.context.tops ≡ context (shape (key_at ks at).rows)))
+    MatchResult r (λ x. (there at ≡ true) × (x.key ≡ at.key) × (take x.count x.siblings ≡ siblings (meaning (key_at ks at))) × (x.context.tops ≡ context (shape (key_at ks at).rows)))
     (Fails at)
 
--- What a send gives: the frame of the state, and how long it is.
-abbrev pub Sends : Spot → List KeyState → Result (Vec ℕ) Failure → Type 0
+-- What a send gives: how long the frame of the state is, and the frame, with zeros behind it.
+abbrev pub Sends : Spot → List KeyState → Result Frame Refusal → Type 0
 Sends at ks r =
-    MatchResult r (λ x. (there at ≡ true) × (length x.items ≡ frame_length 16 (meaning (key_at ks at))) × (x.items ≡ frame setting_bytes at.key (meaning (key_at ks at))))
+    MatchResult r (λ x. (there at ≡ true) × (x.length ≡ frame_length 16 (meaning (key_at ks at)))
+    × (x.bytes ≡ frame setting_bytes at.key (meaning (key_at ks at)) ++ drop x.length (replicate 1756 0)) × (take x.length x.bytes ≡ frame setting_bytes at.key (meaning (key_at ks at))))
     (Fails at)

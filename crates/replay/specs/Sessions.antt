@@ -1,6 +1,5 @@
 -- What a call leaves of a session. Assumes nothing.
-use Rattle.std.specs.Prelude.{◌≡◌, ℕ, ◌+◌, ◌^◌, ◌<◌, List, replicate, Some, None, Ok, Err, MatchResult, Option, Result, slice_get}
-use Rattle.std.specs.BTreeMap.{IsEmpty}
+use Rattle.std.specs.Prelude.{◌≡◌, ℕ, ◌+◌, ◌^◌, ◌<◌, List, [], replicate, take, Some, None, Ok, Err, MatchResult, Option, Result, slice_get, vec_items}
 use Rattle.std.specs.Global.{Vec}
 use Rattle.std.specs.Option.{option_map}
 use Rattle.refusals.specs.declared.Refusal.{Refusal}
@@ -14,6 +13,7 @@ use Rattle.replay.specs.Places.{there}
 use Rattle.replay.specs.Saves.{AllFresh, Holds, Keeps}
 use Rattle.replay.specs.declared.answers.Answer.{Answer}
 use Rattle.replay.specs.declared.answers.Answer.TheVariants.{Written, Done, Seen, Sent, Saved}
+use Rattle.replay.specs.declared.answers.Frame.{Frame}
 use Rattle.replay.specs.declared.answers.Made.{Made}
 use Rattle.replay.specs.declared.answers.Reading.{Reading}
 use Rattle.scenario.specs.declared.calls.Action.{Action}
@@ -25,6 +25,7 @@ use Rattle.replay.specs.declared.errors.Failure.{Failure}
 use Rattle.replay.specs.declared.errors.Failure.TheVariants.{Refused, Unmade}
 use Rattle.replay.specs.declared.errors.NotMade.{NotMade}
 use Rattle.replay.specs.declared.errors.NotMade.TheVariants.{NoSuchGet, NoSuchSend, OutOfMemory}
+use Rattle.replay.specs.declared.history.Gift.{Gift}
 use Rattle.replay.specs.declared.seat_media.Holding.{Holding}
 use Rattle.replay.specs.declared.session.Session.{Session}
 
@@ -34,27 +35,30 @@ states_of s = s.cockpit.states.items
 abbrev pub media_of : Session → List Slots
 media_of s = s.media.slots.items
 
--- the context that the call with this number gave, if it was a get of this key
-abbrev pub gets_of : Session → ℕ → ℕ → Option Context
-gets_of s = given s.gets.gifts
+abbrev pub gets_of : Session → List (Gift Context)
+gets_of s = vec_items s.gets.gifts
 
--- the bytes of the frame that it gave, if it was a send of this key
-abbrev pub sends_of : Session → ℕ → ℕ → Option (List ℕ)
-sends_of s call key = option_map (λ f. f.items) (given s.sends.gifts call key)
+-- the bytes in use of each frame
+abbrev pub sends_of : Session → List (Gift (Vec ℕ))
+sends_of s = vec_items s.sends.gifts
+
+-- the bytes of the frame that the call with this number gave, if it was a send of this key
+abbrev pub bytes_given : Session → ℕ → ℕ → Option (List ℕ)
+bytes_given s call key = option_map (λ f. f.items) (given (sends_of s) call key)
 
 abbrev pub Fresh : Session → Type 0
-Fresh s = (states_of s ≡ replicate 96 no_state) × AllFresh (media_of s) × IsEmpty s.gets.gifts × IsEmpty s.sends.gifts × (s.calls ≡ 0)
+Fresh s = (states_of s ≡ replicate 96 no_state) × AllFresh (media_of s) × (gets_of s ≡ []) × (sends_of s ≡ []) × (s.calls ≡ 0)
 
 -- ---- the get that a call names
 
 -- the tops that a call has seen, where it may name a get: none where the one that it names gave nothing
 abbrev pub tops_of : Session → Option ℕ → ℕ → Option (List ℕ)
 tops_of s None key = Some (replicate 24 0)
-tops_of s (Some call) key = option_map (λ c. c.tops) (gets_of s call key)
+tops_of s (Some call) key = option_map (λ c. c.tops) (given (gets_of s) call key)
 
 -- A call that is not made names no get of its key.
 abbrev pub UnknownGet : Session → Option ℕ → ℕ → NotMade → Type 0
-UnknownGet s named key why = (call : ℕ) × (named ≡ Some call) × (why ≡ NoSuchGet call key) × (gets_of s call key ≡ None)
+UnknownGet s named key why = (call : ℕ) × (named ≡ Some call) × (why ≡ NoSuchGet call key) × (given (gets_of s) call key ≡ None)
 
 abbrev pub Names : Session → Option ℕ → ℕ → Result Context NotMade → Type 0
 Names s named key r = MatchResult r (λ c. tops_of s named key ≡ Some c.tops) (UnknownGet s named key)
@@ -75,7 +79,7 @@ abbrev pub frame_gift : Result Answer Refusal → Option (List ℕ)
 frame_gift (Ok (Written d)) = None
 frame_gift (Ok Done) = None
 frame_gift (Ok (Seen x)) = None
-frame_gift (Ok (Sent x)) = Some x.items
+frame_gift (Ok (Sent x)) = Some (take x.length x.bytes)
 frame_gift (Ok (Saved x)) = None
 frame_gift (Err e) = None
 
@@ -91,24 +95,24 @@ Acts at (Put v named) s s' r =
 Acts at (Delete named) s s' r =
     (media_of s' ≡ media_of s) × ((C : List ℕ) × (tops_of s named at.key ≡ Some C) × Comes (λ u. Done) r (Changes at (there at) (delete_on C) (states_of s) (states_of s')))
 Acts at (Deliver call) s s' r =
-    (media_of s' ≡ media_of s) × ((f : List ℕ) × (sends_of s call at.key ≡ Some f) × Comes (λ key. Done) r (Changes at (there at) (deliver_on f) (states_of s) (states_of s')))
+    (media_of s' ≡ media_of s) × ((f : List ℕ) × (bytes_given s call at.key ≡ Some f) × Comes (λ key. Done) r (Changes at (there at) (deliver_on f) (states_of s) (states_of s')))
 Acts at Get s s' r =
     (media_of s' ≡ media_of s) × (states_of s' ≡ states_of s)
-    × MatchResult r (λ a. (x : Reading) × (a ≡ Seen x) × Tells at (states_of s) (Ok x)) (λ e. Fails at (Refused e))
+    × MatchResult r (λ a. (x : Reading) × (a ≡ Seen x) × Tells at (states_of s) (Ok x)) (Fails at)
 Acts at Send s s' r =
     (media_of s' ≡ media_of s) × (states_of s' ≡ states_of s)
-    × MatchResult r (λ a. (f : Vec ℕ) × (a ≡ Sent f) × Sends at (states_of s) (Ok f)) (λ e. Fails at (Refused e))
+    × MatchResult r (λ a. (f : Frame) × (a ≡ Sent f) × Sends at (states_of s) (Ok f)) (Fails at)
 Acts at Save s s' r =
     (states_of s' ≡ states_of s)
-    × MatchResult r (λ a. (f : Vec ℕ) × (h : Holding) × (m : Slots) × (a ≡ Saved h) × Sends at (states_of s) (Ok f)
-    × Keeps at.seat at.key f.items (media_of s) (media_of s') (Ok tt) × (slice_get (media_of s') at.seat ≡ Some m) × Holds (frames_of m.slots) slots_left h)
-    (λ e. Fails at (Refused e) × (media_of s' ≡ media_of s))
+    × MatchResult r (λ a. (f : Frame) × (h : Holding) × (m : Slots) × (a ≡ Saved h) × Sends at (states_of s) (Ok f)
+    × Keeps at.seat at.key (take f.length f.bytes) (media_of s) (media_of s') (Ok tt) × (slice_get (media_of s') at.seat ≡ Some m) × Holds (frames_of m.slots) slots_left h)
+    (λ e. Fails at e × (media_of s' ≡ media_of s))
 
 -- What a call leaves that is made, with its number.
 pub record Plays (call : Call) (number : ℕ) (s s' : Session) (r : Result Answer Refusal) : Type 0 where
   pub acts : Acts call.at call.action s s' r
-  pub gets : (c k : ℕ) → gets_of s' c k ≡ giving number call.at.key (context_gift r) (gets_of s) c k
-  pub sends : (c k : ℕ) → sends_of s' c k ≡ giving number call.at.key (frame_gift r) (sends_of s) c k
+  pub gets : (c k : ℕ) → given (gets_of s') c k ≡ giving number call.at.key (context_gift r) (given (gets_of s)) c k
+  pub sends : (c k : ℕ) → bytes_given s' c k ≡ giving number call.at.key (frame_gift r) (bytes_given s) c k
 
 -- ---- any call
 
@@ -131,8 +135,8 @@ NamesSend Save n = ⊥
 
 -- A call that is not made names no get or send of its key, and leaves all as it was. Memory may run out after a change.
 abbrev pub Leaves : Call → Session → Session → NotMade → Type 0
-Leaves c s s' (NoSuchGet n key) = (key ≡ c.at.key) × NamesGet c.action n × (gets_of s n key ≡ None) × (s' ≡ s)
-Leaves c s s' (NoSuchSend n key) = (key ≡ c.at.key) × NamesSend c.action n × (sends_of s n key ≡ None) × (s' ≡ s)
+Leaves c s s' (NoSuchGet n key) = (key ≡ c.at.key) × NamesGet c.action n × (given (gets_of s) n key ≡ None) × (s' ≡ s)
+Leaves c s s' (NoSuchSend n key) = (key ≡ c.at.key) × NamesSend c.action n × (given (sends_of s) n key ≡ None) × (s' ≡ s)
 Leaves c s s' (OutOfMemory e) = Unit {0}
 
 abbrev pub Answers : Call → ℕ → Session → Session → Result Answer Failure → Type 0

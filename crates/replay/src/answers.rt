@@ -1,5 +1,5 @@
 // What a call answers.
-ghost use Rattle.std.specs.Prelude.{◌≤◌};
+ghost use Rattle.std.specs.Prelude.{◌≡◌, ◌≤◌, take};
 
 use crate::seat_media::Holding;
 use clock::Context;
@@ -10,13 +10,23 @@ use scenario::Labelled;
 use std::fmt;
 use values::Setting;
 
-// What a get of a key tells.
-#[derive(Drop)]
+// What a get of a key tells: the first `count` of the siblings, and the context.
+#[derive(Clone, Copy)]
 pub struct Reading {
     pub key: u8,
-    pub siblings: Vec<Sibling<Setting>>,
+    pub siblings: [Sibling<Setting>; 96],
+    pub count: usize,
     pub context: Context,
     ghost keys: { key ≤ 15 },
+    ghost within: { count ≤ 96 },
+}
+
+// The frame that a send gives: the first `length` of the bytes.
+#[derive(Clone, Copy)]
+pub struct Frame {
+    pub bytes: [u8; 1756],
+    pub length: usize,
+    ghost within: { length ≤ 1756 },
 }
 
 #[derive(Drop)]
@@ -26,8 +36,7 @@ pub enum Answer {
     // a delete or a delivery
     Done,
     Seen(Reading),
-    // a send, with the frame
-    Sent(Vec<u8>),
+    Sent(Frame),
     Saved(Holding),
 }
 
@@ -45,6 +54,24 @@ struct ShownDot(Dot);
 // Bytes that are shown: how many, and below that in hexadecimal, sixteen to a line.
 #[derive(Clone, Copy)]
 struct Bytes<'a>(&'a [u8]);
+
+impl Reading {
+    // The siblings that it tells.
+    pub fn told(&self) -> &[Sibling<Setting>]
+        ensures { result.now ≡ take self.now.count self.now.siblings }
+    {
+        &self.siblings[..self.count]
+    }
+}
+
+impl Frame {
+    // The bytes in use.
+    pub fn used(&self) -> &[u8]
+        ensures { result.now ≡ take self.now.length self.now.bytes }
+    {
+        &self.bytes[..self.length]
+    }
+}
 
 impl fmt::Display for ShownDot {
     fn fmt<W: fmt::Write>(&self, f: &mut fmt::Formatter<W>) -> fmt::Result {
@@ -68,12 +95,12 @@ impl fmt::Display for Bytes<'_> {
 
 impl fmt::Display for Reading {
     fn fmt<W: fmt::Write>(&self, f: &mut fmt::Formatter<W>) -> fmt::Result {
-        match self.siblings.len() {
+        match self.count {
             0 => f.write_str("no values"),
             1 => f.write_str("1 value"),
             count => write!(f, "{count} values"),
         }?;
-        for sibling in &self.siblings {
+        for sibling in self.told() {
             write!(
                 f,
                 "\n    {}: {}",
@@ -105,7 +132,7 @@ impl fmt::Display for Answer {
             Answer::Written(dot) => write!(f, "{}", ShownDot(*dot)),
             Answer::Done => f.write_str("done"),
             Answer::Seen(reading) => write!(f, "{reading}"),
-            Answer::Sent(frame) => write!(f, "{}", Bytes(frame)),
+            Answer::Sent(frame) => write!(f, "{}", Bytes(frame.used())),
             Answer::Saved(holding) => write!(f, "{holding}"),
         }
     }

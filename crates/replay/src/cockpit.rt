@@ -1,8 +1,7 @@
 // The sixteen keys of the six seats, and the calls on them, all in life 0.
 ghost use Rattle.std.specs.Prelude.{◌≡◌, vec_len};
 
-use crate::answers::Reading;
-use crate::errors::Failure;
+use crate::answers::{Frame, Reading};
 use crate::places::SeatKey;
 use clock::{Context, Row, context_of, discard, list, put};
 use dvvset::{Dot, Sibling};
@@ -38,7 +37,7 @@ const NO_STATE: KeyState = KeyState {
 };
 
 impl KeyState {
-    ghost use Rattle.std.specs.Prelude.{IfOk, ◌≤◌, length};
+    ghost use Rattle.std.specs.Prelude.{◌≤◌, ◌++◌, take, drop, replicate};
     ghost use Rattle.dvvset.specs.Clock.{context};
     ghost use Rattle.dvvset.specs.Listing.{siblings};
     ghost use Rattle.clock.specs.Memory.{shape};
@@ -46,38 +45,38 @@ impl KeyState {
     ghost use Rattle.values.specs.Layouts.{setting_bytes};
     ghost use Rattle.replay.specs.Keys.{meaning};
 
-    // By rising column, the newest first in each.
-    fn siblings(&self, alloc: Global) -> Result<Vec<Sibling<Setting>>, AllocError>
-        ensures { IfOk result (λ v. v.items ≡ siblings (meaning self.now)) }
+    // The siblings, by rising column, the newest first in each, and what one who reads the key has seen of it.
+    fn reading(&self, key: u8) -> Reading
+        requires { key ≤ 15 }
+        ensures key { result.key ≡ key }
+        ensures siblings { take result.count result.siblings ≡ siblings (meaning self.now) }
+        ensures context { result.context.tops ≡ context (shape self.now.rows) }
     {
         let dot = Dot {
             column: 0,
             counter: 0,
         };
         let value = NO_SETTING;
-        // memory that the call is lent, cut to what it filled; likewise below and in `seat_media`
-        let mut siblings = vec![in alloc; Sibling { dot, value }; 96]?;
+        // memory that the call is lent; likewise below
+        let mut siblings = [Sibling { dot, value }; 96];
         let count = list(&self.rows, &self.cells, &mut siblings).unwrap();
-        siblings.truncate(count);
-        Ok(siblings)
+        Reading {
+            key,
+            siblings,
+            count,
+            context: context_of(&self.rows).unwrap(),
+        }
     }
 
-    // What one who reads the key has seen of it.
-    fn context(&self) -> Context
-        ensures { result.tops ≡ context (shape self.now.rows) }
-    {
-        context_of(&self.rows).unwrap()
-    }
-
-    fn frame(&self, alloc: Global, key: u8) -> Result<Vec<u8>, AllocError>
+    fn frame(&self, key: u8) -> Frame
         requires { key ≤ 15 }
-        ensures bytes { IfOk result (λ f. f.items ≡ frame setting_bytes key (meaning self.now)) }
-        ensures length { IfOk result (λ f. length f.items ≡ frame_length 16 (meaning self.now)) }
+        ensures length { result.length ≡ frame_length 16 (meaning self.now) }
+        ensures bytes { result.bytes ≡ frame setting_bytes key (meaning self.now) ++ drop result.length (replicate 1756 0) }
+        ensures used { take result.length result.bytes ≡ frame setting_bytes key (meaning self.now) }
     {
-        let mut frame = vec![in alloc; 0; 1756]?;
-        let length = write_frame(key, &self.rows, &self.cells, &mut frame).unwrap();
-        frame.truncate(length);
-        Ok(frame)
+        let mut bytes = [0; 1756];
+        let length = write_frame(key, &self.rows, &self.cells, &mut bytes).unwrap();
+        Frame { bytes, length }
     }
 }
 
@@ -118,25 +117,21 @@ impl Cockpit {
         discard(&mut state.rows, &state.cells, context)
     }
 
-    pub fn get(&self, alloc: Global, at: Spot) -> Result<Reading, Failure>
+    pub fn get(&self, at: Spot) -> Result<Reading, Refusal>
         ensures { Tells at self.now.states.items result }
     {
         let place = SeatKey::try_from(at)?;
         let state = &self.states[place.index()];
-        Ok(Reading {
-            key: place.key,
-            siblings: state.siblings(alloc)?,
-            context: state.context(),
-        })
+        Ok(state.reading(place.key))
     }
 
     // The frame of what the seat has of the key.
-    pub fn send(&self, alloc: Global, at: Spot) -> Result<Vec<u8>, Failure>
+    pub fn send(&self, at: Spot) -> Result<Frame, Refusal>
         ensures { Sends at self.now.states.items result }
     {
         let place = SeatKey::try_from(at)?;
         let state = &self.states[place.index()];
-        Ok(state.frame(alloc, place.key)?)
+        Ok(state.frame(place.key))
     }
 
     // The seat merges a frame into what it has of the key; the answer is the frame's key.

@@ -28,6 +28,7 @@ fn newest(alloc: Global, medium: &Slots, key: u8) -> Result<Option<Vec<u8>>, All
     requires { key ≤ 15 }
     ensures { IfOk result (λ f. option_map (λ v. v.items) f ≡ frames_of medium.now.slots key) }
 {
+    // memory that the call is lent, cut to what it filled
     let mut frame = vec![in alloc; 0; 1756]?;
     let Some(length) = medium.read(key, &mut frame).unwrap() else {
         return Ok(None);

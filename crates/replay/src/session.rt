@@ -5,7 +5,7 @@ ghost use Rattle.replay.specs.Sessions.{Answers, Fresh, Makes, Names};
 use crate::answers::{Answer, Made};
 use crate::cockpit::Cockpit;
 use crate::errors::{Failure, NotMade};
-use crate::history::History;
+use crate::history::{Gift, History};
 use crate::places::SeatKey;
 use crate::seat_media::{Holding, Media};
 use clock::Context;
@@ -69,19 +69,29 @@ impl Session {
                 Ok(Answer::Done)
             }
             Action::Get => {
-                let reading = self.cockpit.get(self.alloc, at)?;
-                self.gets.add(number, at.key, reading.context)?;
+                let reading = self.cockpit.get(at)?;
+                let gift = Gift {
+                    call: number,
+                    key: at.key,
+                    what: reading.context,
+                };
+                self.gets.add(gift).map_err(AllocError::from)?;
                 Ok(Answer::Seen(reading))
             }
             Action::Send => {
-                let frame = self.cockpit.send(self.alloc, at)?;
-                self.sends.add(number, at.key, frame.clone()?)?;
+                let frame = self.cockpit.send(at)?;
+                let gift = Gift {
+                    call: number,
+                    key: at.key,
+                    what: Vec::from_slice(self.alloc, frame.used())?,
+                };
+                self.sends.add(gift).map_err(AllocError::from)?;
                 Ok(Answer::Sent(frame))
             }
             Action::Save => {
                 let place = SeatKey::try_from(at)?;
-                let frame = self.cockpit.send(self.alloc, at)?;
-                self.media.save(at.seat, place.key, &frame)?;
+                let frame = self.cockpit.send(at)?;
+                self.media.save(at.seat, place.key, frame.used())?;
                 let medium = self.media.medium(place);
                 Ok(Answer::Saved(Holding::of(self.alloc, medium)?))
             }
